@@ -52,7 +52,8 @@ def with_stubs(directory):
 
 
 def of_prove(test, directory):
-    """../receive runs what is proved alone, says on standard error that it proves, and nothing if there is nothing to say."""
+    """../receive runs what is proved alone, says on standard error that it proves, and nothing if there is nothing to say. The arguments of
+    ../explain are a packet (rule 19.10), and ../replay without a trace writes its usage (rule 21.10)."""
     environment = with_stubs(pathlib.Path(directory))
     usage = 'usage: ./' + (TOP / 'receive').read_text().splitlines()[1][2:] + '\n'
 

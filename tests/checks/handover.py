@@ -136,7 +136,7 @@ def unusable(adapter):
 
 
 def refused(handover):
-    """Files that cannot be loaded or saved to: status 2, a line that names the file, and nothing played or saved."""
+    """Files that cannot be loaded or saved to: status 2, a line that names the file, and nothing played or saved (rules 20.26 and 20.29)."""
     count = 0
     with tempfile.TemporaryDirectory() as folder:
         adapter = Adapter(handover, folder)

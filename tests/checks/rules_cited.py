@@ -1,13 +1,17 @@
 #!/usr/bin/env python3
 # check: beside
 # self-test: beside
-# says: a citation names no rule of docs/RULES.md, or docs/RULES-CITED.md is stale
+# says: a citation names no rule of docs/RULES.md, a hole has no reason, or docs/RULES-CITED.md is stale
 # counts: checks of documents
 """Citations of docs/RULES.md: each must name a rule, and docs/RULES-CITED.md must be the table of who cites what; --write writes the table.
-A citation is `rule 4.3`, or `rules` with two numbers or more, joined by commas, `and` and `to` (`rules 4.3, 4.5 and 6.1 to 6.3`); `to` has
-both ends in one section. It may break across the lines of a comment. Definitions are the files of specs/ and code those of src/; cases are
-the worked files of specs/ and proofs/ (CASES below) and the rows of cases/README.md; of an edit its comment counts. Rules that nothing of a
-kind cites are counted and shown in the table; they are no failure."""
+A citation is `rule 4.3`, or `rules` with two numbers or more, joined by commas, `and` and `to` (`rules 4.3, 4.5 and 6.1 to 6.3`); `to`
+has both ends in one section. It may break across the lines of a comment. Definitions are the files of specs/ and code those of src/;
+cases are the worked files of specs/ and proofs/ (CASES below) and the rows of cases/README.md; of an edit its comment counts. In the
+files that make scripts and mistakes (ABOUT below) a range says what the file is about, and not that it tests each rule: it does not
+count as a test. A rule that nothing of a kind cites is a hole. rules-holes.txt has the reason for each, and the table shows it: a line
+is `RULES | KIND | reason`, where RULES is a section (26) or a list as in a citation, KIND is definition, case or test, and a reason that
+begins with `open` says that it should be filled. Of several lines the one that names the fewest rules holds. A rule that has a case
+needs no edit or test of its own: the case is proved or run."""
 
 import argparse
 import collections
@@ -26,7 +30,7 @@ ROOT = next(folder for folder in SELF.parents if (folder / 'crates.txt').exists(
 RULES, TABLE = 'docs/RULES.md', 'docs/RULES-CITED.md'
 PLACES = ('crates', 'tests', 'docs', 'bin', 'tools', 'examples', 'include')
 TEXTS = ('.antt', '.rt', '.edit', '.py', '.md', '.c', '.h', '.sh', '')
-CASES = re.compile(r'Cases$|^(Sheet|Example|Burst|Instance)$')
+CASES = re.compile(r'(Cases|Example|Instances?)$|^(Sheet|Burst)$')
 KINDS = ('definitions', 'code', 'cases', 'edits', 'tests')
 
 NUMBER = r'\d+\.\d+(?!\.?\d)'
@@ -35,6 +39,11 @@ LIST = re.compile(r'\b([Rr]ules?) (%s(?:(?:, and |, | and | to )%s)*)' % (NUMBER
 OTHER_FORM = re.compile(r'\b[Rr]ules? %s ?[-–/&] ?\d' % NUMBER)
 BREAK = re.compile(r'\n[ \t]*(?:--|//|#|\*)?[ \t]*')
 ROW = re.compile(r'^\| `([^`]+)` \|(.*)$', re.M)
+
+HOLES = 'tests/checks/rules-holes.txt'
+ABOUT = ('making', 'mutants', 'independent', 'support')
+PROVED = 'its case is proved, and `tests/meaning` tries changes of its definition'
+RUN = 'its stored case is run'
 
 
 class Wrong(Exception):
@@ -72,29 +81,32 @@ def rules_in(text):
 
 
 def spread(numbers):
-    """The numbers of one citation, each `to` spread out."""
-    found = []
+    """The numbers of one citation, each `to` spread out; and those that a `to` gave."""
+    found, ranged = [], []
     for part in re.split(r', and |, | and ', numbers):
         first, *end = part.split(' to ')
         if len(end) > 1 or (end and (order(first)[0] != order(end[0])[0] or order(first) >= order(end[0]))):
             raise Wrong("'%s' is no range within a section" % part)
         section = order(first)[0]
-        found += ['%d.%d' % (section, at) for at in range(order(first)[1], order(end[0] if end else first)[1] + 1)]
-    return found
+        here = ['%d.%d' % (section, at) for at in range(order(first)[1], order(end[0] if end else first)[1] + 1)]
+        found += here
+        ranged += here if end else []
+    return found, ranged
 
 
 def cited_in(text):
-    """The rules that a text cites, in its order."""
-    joined, found = BREAK.sub(' ', text), []
+    """The rules that a text cites, in its order, and those that it cites one by one."""
+    joined, found, single = BREAK.sub(' ', text), [], set()
     other = OTHER_FORM.search(joined)
     if other:
         raise Wrong("'%s' is no citation: write 'rules 4.3 and 4.5' or 'rules 4.3 to 4.7'" % other[0])
     for match in LIST.finditer(joined):
-        numbers = spread(match[2])
+        numbers, ranged = spread(match[2])
         if (match[1].lower() == 'rule') != (len(numbers) == 1):
             raise Wrong("'%s': 'rule' has one number, 'rules' several" % match[0])
         found += numbers
-    return found
+        single.update(set(numbers) - set(ranged))
+    return found, single
 
 
 def files(root):
@@ -126,7 +138,7 @@ def sources(path, text):
 
 def citations(root, rules):
     """For each kind and rule who cites it, and how many citations there are; a citation of no rule is wrong."""
-    found, count = {kind: collections.defaultdict(set) for kind in KINDS}, 0
+    found, count = {kind: collections.defaultdict(set) for kind in (*KINDS, 'about')}, 0
     for path in files(root):
         try:
             text = path.read_text(encoding='utf-8')
@@ -135,14 +147,15 @@ def citations(root, rules):
         at = path.relative_to(root)
         for kind, name, part in sources(at, text):
             try:
-                numbers = cited_in(part)
+                numbers, single = cited_in(part)
             except Wrong as wrong:
                 raise Wrong('%s: %s' % (at, wrong)) from None
             for number in numbers:
                 if number not in rules:
                     raise Wrong('%s cites rule %s, and %s has no such rule' % (at, number, RULES))
                 if kind:
-                    found[kind][number].add(name)
+                    about = kind == 'tests' and at.parts[1] in ABOUT and number not in single
+                    found['about' if about else kind][number].add(name)
                     count += 1
     return found, count
 
@@ -150,29 +163,80 @@ def citations(root, rules):
 def holes(found, rules):
     """The rules without a definition or code, without a case, and without an edit or a test."""
     return {name: [rule for rule in rules if not any(found[kind][rule] for kind in kinds)]
-            for name, kinds in (('definition', ('definitions', 'code')), ('case', ('cases',)), ('edit or test', ('edits', 'tests')))}
+            for name, kinds in (('definition', ('definitions', 'code')), ('case', ('cases',)), ('test', ('edits', 'tests')))}
 
 
-def table(found, rules):
+def reasons(root, rules):
+    """The lines of rules-holes.txt in their order: the rules, the kind and the reason."""
+    found, file = [], root / HOLES
+    for line in file.read_text(encoding='utf-8').splitlines() if file.exists() else []:
+        if line.strip() and not line.startswith('#'):
+            which, kind, reason, *more = [part.strip() for part in line.split(' | ')] + [''] * 3
+            if more[0] or not reason or kind not in ('definition', 'case', 'test'):
+                raise Wrong("%s: '%s' is not of the form 'RULES | definition, case or test | reason'" % (HOLES, line))
+            try:
+                named = [rule for rule in rules if rule.split('.')[0] == which] if which.isdigit() else spread(which)[0]
+            except (Wrong, ValueError):
+                named = []
+            if not named or not set(named) <= set(rules):
+                raise Wrong('%s: no rules are %s' % (HOLES, which))
+            found.append((set(named), kind, reason))
+    return found
+
+
+def reason_of(rule, kind, told):
+    """The reason of a hole: that of the line that names the fewest rules."""
+    fitting = [(len(named), reason) for named, its, reason in told if its == kind and rule in named]
+    return min(fitting, key=lambda pair: pair[0])[1] if fitting else None
+
+
+def reasoned(found, rules, told):
+    """For each kind the reason of each hole; a hole without one is wrong."""
+    why = {kind: {rule: reason_of(rule, kind, told) for rule in missing} for kind, missing in holes(found, rules).items()}
+    for rule, reason in why['test'].items():
+        if (reason or 'open').startswith('open') and found['cases'][rule]:
+            why['test'][rule] = PROVED if any('/' in name for name in found['cases'][rule]) else RUN
+    bare = ['%s (%s)' % (rule, kind) for kind in why for rule, reason in why[kind].items() if reason is None]
+    if bare:
+        raise Wrong('holes without a reason in %s: %s' % (HOLES, ', '.join(bare)))
+    return why
+
+
+def table(found, rules, told):
     """The text of the table."""
+    why = reasoned(found, rules, told)
+    numbers = {}
+    for kind in why:
+        for reason in why[kind].values():
+            numbers.setdefault(reason, len(numbers) + 1)
     lines = ['# Who cites which rule', '',
              'Written by `tests/checks/rules_cited.py --write` from the comments, and checked by the same script. The rules are in',
              '[RULES.md](RULES.md). Definitions are files of `specs/`, code files of `src/`, cases worked files (`crate/File`) or',
              'stored cases (a name of `tests/cases`), edits `crate/NAME` of `must-fail/`. **none** is a hole: nothing of that kind',
-             'cites the rule.', '',
-             '| Section | Rules | no definition or code | no case | no edit or test |', '|---|---|---|---|---|']
-    missing = holes(found, rules)
-    sections = sorted({order(rule)[0] for rule in rules})
-    for section in sections:
-        lines.append('| %d | %d | %s |' % (section, sum(order(rule)[0] == section for rule in rules), ' | '.join(
-            str(sum(order(rule)[0] == section for rule in missing[name])) for name in missing)))
-    lines.append('| all | %d | %s |' % (len(rules), ' | '.join(str(len(missing[name])) for name in missing)))
+             'cites the rule. The number behind it is the reason, below; those that begin with *open* should be filled. A test in',
+             'brackets is about a range of rules, this one among them, and does not count.', '',
+             '| Section | Rules | no definition or code | open | no case | open | no edit or test | open |',
+             '|---|---|---|---|---|---|---|---|']
+
+    def counted(section):
+        """The cells of a section, or of all."""
+        for kind in why:
+            its = [reason for rule, reason in why[kind].items() if section in (None, order(rule)[0])]
+            yield from (len(its), sum(reason.startswith('open') for reason in its))
+
+    for section in sorted({order(rule)[0] for rule in rules}):
+        many = sum(order(rule)[0] == section for rule in rules)
+        lines.append('| %d | %d | %s |' % (section, many, ' | '.join(map(str, counted(section)))))
+    lines.append('| all | %d | %s |' % (len(rules), ' | '.join(map(str, counted(None)))))
+    lines += [''] + ['%d. %s%s' % (number, reason[0].upper() + reason[1:], '' if reason.endswith('.') else '.')
+                     for reason, number in numbers.items()]
     lines += ['', '| Rule | Definitions | Code | Cases | Edits | Tests |', '|---|---|---|---|---|---|']
     for rule in rules:
         cells = {kind: ', '.join('`%s`' % name for name in sorted(found[kind][rule])) for kind in KINDS}
-        for name, kind in (('definition', 'definitions'), ('case', 'cases'), ('edit or test', 'edits')):
-            if rule in missing[name]:
-                cells[kind] = '**none**'
+        for kind, cell in (('definition', 'definitions'), ('case', 'cases'), ('test', 'edits')):
+            if rule in why[kind]:
+                cells[cell] = '**none** %d' % numbers[why[kind][rule]]
+        cells['tests'] = ', '.join([cells['tests']] * bool(cells['tests']) + ['(`%s`)' % name for name in sorted(found['about'][rule])])
         lines.append('| %s | %s |' % (rule, ' | '.join(cells[kind] for kind in KINDS)))
     return '\n'.join(lines) + '\n'
 
@@ -190,15 +254,17 @@ def check(root):
     yield '%d rules, each number once' % len(rules)
     found, count = citations(root, set(rules))
     yield '%d citations, each of a rule' % count
-    as_written(root, table(found, rules))
-    yield '%s is not stale; cited by no %s' % (TABLE, ', by no '.join(
-        '%s: %d rules' % (name, len(missing)) for name, missing in holes(found, rules).items()))
+    why = reasoned(found, rules, reasons(root, rules))
+    yield 'each hole has a reason; open are %s' % ', '.join('%d of %d without a %s' % (
+        sum(reason.startswith('open') for reason in why[kind].values()), len(why[kind]), kind) for kind in why)
+    as_written(root, table(found, rules, reasons(root, rules)))
+    yield '%s is not stale' % TABLE
 
 
 def write(root):
     """Writes the table."""
     rules = rules_in((root / RULES).read_text(encoding='utf-8'))
-    (root / TABLE).write_text(table(citations(root, set(rules))[0], rules), encoding='utf-8')
+    (root / TABLE).write_text(table(citations(root, set(rules))[0], rules, reasons(root, rules)), encoding='utf-8')
 
 
 def run(root):
@@ -224,6 +290,10 @@ SAMPLE = {
     'crates/a/src/lib.rt': '// Rule 2.2.\n',
     'crates/a/must-fail/b.edit': '# rule 1.2 is not held\nfile: specs/A.antt\nold: -- rule 2.3\nnew: --\n',
     'tests/c.py': '"""It tests rule 2.1."""\n',
+    'tests/making/d.py': '"""About rules 2.1 to 2.3 and 1.1."""\n',
+    HOLES: '# why\n1.2 | definition | it is a case\n2 | definition | it is new\n2 | case | open: none is written\n'
+           '2.3 | case | no case can show it\n2 | test | scripts\n'
+           '2.1 | test | open: none is named for it\n',
     'tests/cases/README.md': '| case | |\n|---|---|\n| `one` | rule 1.1 |\n',
 }
 
@@ -250,10 +320,12 @@ def self_test():
 
         test.passes('the tree as it should be', run, made())
         written = (root / TABLE).read_text(encoding='utf-8')
-        test.says('the counts', 'cited by no definition: 1 rules, by no case: 2 rules, by no edit or test: 3 rules', list(check(root))[-1])
-        for words in ('| 1.1 | `a/A` |  | `a/Cases`, `one` | **none** |  |', '| 1.2 | **none** |  | `a/Cases` | `a/b` |  |',
-                      '| 2.1 | `a/A` |  | `a/Cases` |  | `tests/c.py` |', '| 2.2 | `a/A` | `a/lib.rt` | **none** | **none** |  |',
-                      '| 2.3 | `a/A` |  | **none** | **none** |  |', '| all | 5 | 1 | 2 | 3 |'):
+        test.says('the counts', 'open are 0 of 1 without a definition, 1 of 2 without a case, 0 of 2 without a test', list(check(root))[2])
+        for words in ('| 1.1 | `a/A` |  | `a/Cases`, `one` |  | `tests/making/d.py` |', '| 1.2 | **none** 1 |  | `a/Cases` | `a/b` |  |',
+                      '| 2.1 | `a/A` |  | `a/Cases` |  | `tests/c.py`, (`tests/making/d.py`) |',
+                      '| 2.2 | `a/A` | `a/lib.rt` | **none** 2 | **none** 4 | (`tests/making/d.py`) |',
+                      '| 2.3 | `a/A` |  | **none** 3 | **none** 4 | (`tests/making/d.py`) |', '| all | 5 | 1 | 0 | 2 | 1 | 2 | 0 |',
+                      '1. It is a case.', '2. Open: none is written.', '3. No case can show it.'):
             test.says('the table', words, written)
         for name, words, *change in (
                 ('a rule twice', 'rule 1.1 occurs twice', 'docs/RULES.md', '**1.2**', '**1.1**'),
@@ -278,10 +350,23 @@ def self_test():
                 ('one number for several', "'rules 2.1': 'rule' has one number", 'crates/a/specs/A.antt', '2.1 to 2.3', '2.1'),
                 ('several for one', "'Rule 2.2 and 2.3': 'rule' has one number", 'crates/a/src/lib.rt', '2.2', '2.2 and 2.3')):
             test.fails('a wrong citation, ' + name, words, lambda change=change: run(made([change], False)))
+        made([('tests/c.py', 'rule 2.1', 'it')])
+        test.says('a case and no test', '. ' + PROVED[0].upper() + PROVED[1:], (root / TABLE).read_text(encoding='utf-8'))
+        made([('tests/c.py', 'rule 2.1', 'it'), ('crates/a/specs/Cases.antt', ' and 2.1', ''),
+              ('tests/cases/README.md', 'rule 1.1', 'rule 2.1'), ('crates/a/specs/Cases.antt', 'rules 1.1,\n-- 1.2', 'rules 1.1 and 1.2')])
+        test.says('a stored case and no test', '. ' + RUN[0].upper() + RUN[1:], (root / TABLE).read_text(encoding='utf-8'))
+        for name, words, old, new in (
+                ('no reason', 'holes without a reason in tests/checks/rules-holes.txt: 1.2 (definition)',
+                 '1.2 | definition | it is a case\n', ''),
+                ('a reason of another kind', 'is not of the form', '2 | test', '2 | tests'),
+                ('a line without a reason', 'is not of the form', 'it is a case', ''),
+                ('a reason for no section', 'no rules are 3', '2 | test', '3 | test'),
+                ('a reason for no rule', 'no rules are 1.9', '1.2 |', '1.9 |')):
+            test.fails('a hole, ' + name, words, lambda change=(HOLES, old, new): run(made([change], False)))
         test.fails('no table', 'docs/RULES-CITED.md is stale', run, made(table_too=False))
         for name, file, old, new in (('a citation more', 'crates/a/src/lib.rt', '2.2.', '2.2. Rule 1.1.'),
                                      ('a citation less', 'tests/c.py', 'rule 2.1', 'it'),
-                                     ('a rule more', 'docs/RULES.md', '- **1.2** B.\n', '- **1.2** B.\n- **1.3** F.\n')):
+                                     ('a rule more', 'docs/RULES.md', '| **2.3** | E |\n', '| **2.3** | E |\n| **2.4** | F |\n')):
             made()
             text = (root / file).read_text(encoding='utf-8')
             (root / file).write_text(text.replace(old, new), encoding='utf-8')

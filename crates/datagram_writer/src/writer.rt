@@ -20,8 +20,9 @@ ghost use lib.Dec.{eqb};
 ghost use Rattle.length.specs.Answers.{done};
 ghost use Rattle.length.specs.Length.{lengthLimit};
 ghost use Rattle.length.specs.Promise.{Puts, Put};
-ghost use Rattle.datagram.specs.Write.{datagramOctets, datagramToWrite, carriedOf, sumOf, itemInside, itemsInside, lengthsInside};
+ghost use Rattle.datagram.specs.Write.{datagramOctets, carriedOf, sumOf, itemInside, itemsInside, lengthsInside};
 ghost use Rattle.datagram.specs.Inner.Heads.{Bounded, datagramSize};
+ghost use Rattle.datagram_writer.specs.Promise.{DatagramWritten};
 
 // ---- what is refused
 
@@ -141,7 +142,7 @@ pub fn write(
     data: &[u8],
     out: &mut [u8],
 ) -> Written
-    ensures { λ r. ⌜ Puts (datagramToWrite number (now (packet .entry)) kind (now (lengths .entry)) (now («data» .entry)))
+    ensures { λ r. ⌜ DatagramWritten number (now (packet .entry)) kind (now (lengths .entry)) (now («data» .entry))
         (now (out .entry)) (now (out .exit)) r ⌝ }
 {
     let counted = count_inside(kind, lengths.len());

@@ -36,10 +36,11 @@ use Rattle.solve.proofs.SolutionsLaws.{means-it}
 use Rattle.solve.specs.Solved.{Solves}
 use Rattle.solve_code.specs.Outcome.{filledOf}
 use Rattle.session_calls.specs.Receiver.{SeenAs, After, inRangesThen, offerOf, OfferOwes, releaseOf, ReleaseOwes}
-use Rattle.session_calls.specs.Solver.{solveOf, SolveOwes}
+use Rattle.session_calls.specs.Solver.{SolvesAs, SolveOwes}
 use Rattle.session_calls.specs.declared.receiver.AfterOffer.{AfterOffer}
 use Rattle.session_calls.specs.declared.receiver.AfterRelease.{AfterRelease}
 use Rattle.session_calls.specs.declared.solver.AfterSolve.{AfterSolve}
+use Rattle.session_calls.proofs.Laws.{solves-as, one-answer}
 use Rattle.demands.specs.Common.History as moves
 use Rattle.demands.specs.Common.History.{afterMove}
 use Rattle.demands.specs.Common.Calls.{Call, offer, release, solve, Calls, handedOut, leftIn}
@@ -118,9 +119,10 @@ module _ {view : View} {s : Session} (seen : SeenAs view s) where
   unfolding releaseOf
   release-is leave room = in-ranges-then (releases.release leave room) seen
 
-  pub solve-is : solveOf s ≡ solutions.solve view
-  unfolding solveOf
-  solve-is = in-ranges-then solutions.solve seen
+  -- what the equations mean, the function computes
+  pub solve-is : (a : Answer View) → SolvesAs s a → a ≡ solutions.solve view
+  solve-is a means =
+      one-answer s a (inRangesThen solutions.solve s) means (solves-as s) ∙ in-ranges-then solutions.solve seen
 
   -- the session after it
   after-offer : (a : Answer View) (t : Session) → After a s t → SeenAs (afterwards a view) t
@@ -147,7 +149,8 @@ module _ {view : View} {s : Session} (seen : SeenAs view s) where
   pub solved-seen : {r : AfterSolve} → SolveOwes s r → SeenAs (afterMove moves.solve view) (r .session)
   unfolding afterMove
   solved-seen {r} owes =
-      after-offer (solutions.solve view) (r .session) (subst (λ (a : Answer View). After a s (r .session)) solve-is (owes .state))
+      after-offer (solutions.solve view) (r .session)
+      (subst (λ (a : Answer View). After a s (r .session)) (solve-is (owes .wanted) (owes .means)) (owes .state))
 
 -- ---- what the answers hand out
 handed-out : (a : Answer Release) (r : Released) (old : List ℕ) → releasedOutcome r ≡ handedOf a
@@ -184,10 +187,14 @@ module _ {view : View} {s : Session} (seen : SeenAs view s) where
     owes .lent ∙ ap (λ (a : Answer Release). over (octetsHanded a) old) (release-is seen leave (length old)),
   )
 
+  -- what the equations mean
+  pub seen-solves : Solves view (solutions.solve view)
+  seen-solves = subst (λ (v : View). Solves v (solutions.solve v)) (seen .view) (means-it (viewOf s) (seen .within .sound))
+
   solved-says : {r : AfterSolve} → SolveOwes s r → Says view (solve (r .answer))
   solved-says owes = (
-    owes .answer ∙ ap filledOf (solve-is seen),
-    subst (λ (v : View). Solves v (solutions.solve v)) (seen .view) (means-it (viewOf s) (seen .within .sound)),
+    owes .answer ∙ ap filledOf (solve-is seen (owes .wanted) (owes .means)),
+    seen-solves,
   )
 
 -- a chain of calls goes on from what the first session holds

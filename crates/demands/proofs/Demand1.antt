@@ -9,6 +9,7 @@ use Rattle.length.specs.Answers.{Answer, done, refused, fitted}
 use Rattle.length.specs.Answers as answers
 use Rattle.length.specs.Tables.{first, refusalIn, roomRow}
 use Rattle.length.specs.Length.{lengthOctets, lengthWriterRows, lengthToWrite}
+use Rattle.length.specs.Promise.{Puts}
 use Rattle.length.proofs.Laws.{fitted-first, puts-refusal, size-refusal}
 use Rattle.datagram.specs.Write.{carriedOf, datagramOctets, datagramWriterRows, datagramToWrite}
 use Rattle.datagram.specs.declared.kind.Kind.{Kind}
@@ -17,6 +18,7 @@ use Rattle.packet.specs.Write.{packetOctets, packetWriterRows, packetToWrite}
 use Rattle.packet.specs.declared.types.Choice.{Choice}
 use Rattle.packet.specs.declared.types.PacketKind as packets
 use Rattle.packet.specs.declared.types.Named.{Named}
+use Rattle.packet.specs.Promise.{packetBy}
 use Rattle.sender.specs.Sending.{Sending}
 use Rattle.sender.specs.Send.{carriedNext}
 use Rattle.sender.specs.Sender.{sendingOf}
@@ -24,12 +26,13 @@ use Rattle.sender.specs.Promise.{senderRows, toSend, StateAfter}
 use Rattle.sender.specs.declared.Sender.{Sender}
 use Rattle.sender.specs.declared.Settings.{Settings}
 use Rattle.line.specs.Hex.{octetsIn, lineRows, lineOctets}
-use Rattle.demands.specs.Common.NamedEdition.{Names, packetBy}
+use Rattle.demands.specs.Common.NamedEdition.{Names}
 use Rattle.demands.specs.Demand1.Demand1 as demand
 use Rattle.demands.specs.Demand1.Demand1.{Unchanged, Writers, Demand1}
 use Rattle.demands.proofs.OfferReads.{offer-reads}
 use Rattle.demands.proofs.RefusedReads.{readers}
 use Rattle.demands.proofs.RefusedCalls.{receiving}
+use Rattle.demands.proofs.RefusedSolve.{solving}
 use Rattle.demands.proofs.RefusalPlaces.{places}
 
 -- ---- writers: each follows from its table
@@ -72,7 +75,7 @@ over-refused : (w : Answer (List ℕ)) (old : List ℕ) (n : ℕ) → refusalIn 
 over-refused (done x) old n e = let z : _≡_ {A = ℕ} 0 1 = cc in absurd (omega arith)
 over-refused (refused why) old n e = refl
 
-pub puts-unchanged : (w : Answer (List ℕ)) → Unchanged w
+pub puts-unchanged : (w : Answer (List ℕ)) → Unchanged (Puts w)
 puts-unchanged w old new r n p e = p .lent ∙ over-refused (fitted w old) old n (sym (puts-refusal p) ∙ e)
 
 writers : Writers
@@ -116,4 +119,12 @@ sending =
 
 pub demand-1 : Demand1
 demand-1 =
-    record { readers = readers; writers = writers; receiving = receiving; offerReads = offer-reads; sending = sending; places = places }
+    record {
+      readers = readers;
+      writers = writers;
+      receiving = receiving;
+      offerReads = offer-reads;
+      solving = solving;
+      sending = sending;
+      places = places;
+    }

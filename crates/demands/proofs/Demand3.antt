@@ -17,12 +17,12 @@ use Rattle.session_calls.specs.Receiver.{SeenAs, OfferOwes}
 use Rattle.session_calls.specs.declared.receiver.AfterOffer.{AfterOffer}
 use Rattle.sender.specs.Honest.{HonestSender}
 use Rattle.demands.specs.Common.History.{afterMove, offer}
-use Rattle.demands.specs.Demand3.Feeding.{Near, sentAt, datagramAt, Offers, Fed, fresh, offered, released, Takes, none, accepted}
-use Rattle.demands.specs.Demand3.Feeding.{repeated}
+use Rattle.demands.specs.Demand3.Feeding.{Near, sentAt, datagramAt, Offers, Fed, fresh, offered, released, solved}
+use Rattle.demands.specs.Demand3.Feeding.{Takes, none, accepted, repeated}
 use Rattle.demands.specs.Demand3.Demand3.{TwoLists, BurstBack, Demand3}
-use Rattle.demands.proofs.Calling.{fresh-seen, offer-is, offered-seen, released-seen}
+use Rattle.demands.proofs.Calling.{fresh-seen, offer-is, offered-seen, released-seen, solved-seen, seen-solves}
 use Rattle.demands.proofs.FedViews as views
-use Rattle.demands.proofs.FedViews.{FedView, TakesViews, arrives, releases}
+use Rattle.demands.proofs.FedViews.{FedView, TakesViews, arrives, releases, solves}
 use Rattle.demands.proofs.Sent.{one-origin}
 use Rattle.demands.proofs.Fed.{fed-sound}
 use Rattle.demands.proofs.FedCalls.{call-of, fed-calls, takes-calls}
@@ -63,6 +63,9 @@ module _ {row datagrams : List (List ℕ)} where
   fed-seen (released {leave = leave} {old = old} f owes) =
       let b = fed-seen f in
       record { view = _; seen = released-seen (b .seen) owes; fed = releases (b .fed) leave (length old) }
+  fed-seen (solved f owes) =
+      let b = fed-seen f in
+      record { view = _; seen = solved-seen (b .seen) owes; fed = solves (b .fed) (seen-solves (b .seen)) }
 
   -- a list of accepted or repeated datagrams
   module _ {view : View} {s : Session} (seen : SeenAs view s) {S : ℕ} {r : AfterOffer} (o : Offers row datagrams S s r) where

@@ -20,17 +20,21 @@ use Rattle.session.specs.Offer as offers
 use Rattle.session.specs.Offer.{accept, acceptedAt, offered, lateFrom}
 use Rattle.session.specs.Release.{Release, release, viewAfterRelease}
 use Rattle.session.proofs.Laws.{release-leaves}
+use Rattle.solve.specs.Solved.{Solves}
+use Rattle.solve.specs.Solve as solutions
 use Rattle.sender.specs.Honest.{HonestSender}
 use Rattle.demands.specs.Common.History as moves
 use Rattle.demands.specs.Common.History.{afterMove, offer}
 use Rattle.demands.specs.Demand3.Feeding.{placeOf, Near, datagramAt}
 use Rattle.demands.proofs.Ranges.{ViewInRanges}
-use Rattle.demands.proofs.FedViews.{FedView, fresh, arrives, releases}
+use Rattle.demands.proofs.FedViews.{FedView, fresh, arrives, releases, solves}
 use Rattle.demands.proofs.Taken.{offer-done}
 use Rattle.demands.proofs.Steps.{moved-sum}
 use Rattle.demands.proofs.Sent.{Follows, follows-of}
 use Rattle.demands.proofs.Sound.{Sound, fresh-sound, accept-sound}
 use Rattle.demands.proofs.SoundOn.{on-sound}
+use Rattle.demands.proofs.SolveDone.{solve-done}
+use Rattle.demands.proofs.SolvedSound.{solved-to-sound}
 
 -- ---- places and numbers: within 32,000 places a number tells its place
 place-of : (B S : ℕ) → S ≤ B + 32000 → B ≤ S + 32000 → distance (B % numbers) (S % numbers) < keptAhead
@@ -155,8 +159,16 @@ module _ {row datagrams : List (List ℕ)} (honest : HonestSender row datagrams)
         subst (Sound row datagrams) (sym (o .after)) (on-sound s _ (moved-sum view (s .ranges)))
     pick (refused why) e = s
 
+  solves-sound : Solves view (solutions.solve view) → Sound row datagrams (afterMove moves.solve view)
+  unfolding afterMove
+  solves-sound means = pick (solutions.solve view) refl means where
+    pick : (a : Answer View) → solutions.solve view ≡ a → Solves view a → Sound row datagrams (afterwards a view)
+    pick (done last) e t = solved-to-sound honest s (solve-done view last e) t
+    pick (refused why) e t = s
+
 pub fed-sound : {row datagrams : List (List ℕ)} → HonestSender row datagrams → {view : View} → FedView row datagrams view
     → Sound row datagrams view
 fed-sound {row} {datagrams} honest fresh = fresh-sound row datagrams
 fed-sound honest (arrives f S low near) = arrives-sound honest (fed-sound honest f) S low near
 fed-sound honest (releases f leave room) = releases-sound honest (fed-sound honest f) leave room
+fed-sound honest (solves f means) = solves-sound honest (fed-sound honest f) means

@@ -8,7 +8,8 @@ use Rattle.session_calls.specs.Receiver.{OfferOwes}
 use Rattle.session_calls.specs.declared.receiver.AfterOffer.{AfterOffer}
 use Rattle.demands.specs.Common.Calls as chain
 use Rattle.demands.specs.Common.Calls.{Calls, start, _then_, Called, offer, leftBy}
-use Rattle.demands.specs.Demand3.Feeding.{datagramAt, Offers, Fed, fresh, offered, released, Takes, none, accepted, repeated}
+use Rattle.demands.specs.Demand3.Feeding.{datagramAt, Offers, Fed, fresh, offered, released, solved, Takes, none, accepted}
+use Rattle.demands.specs.Demand3.Feeding.{repeated}
 use Rattle.demands.specs.Demand3.FedCalls as fed
 use Rattle.demands.specs.Demand3.FedCalls.{CameBy, Offering, CameOn}
 use Rattle.demands.proofs.Calling.{fresh-seen, called-on}
@@ -27,6 +28,7 @@ module _ {row datagrams : List (List ℕ)} where
   fed-calls (fresh f) = (start, came-by f chain.atStart)
   fed-calls (offered f o) = let c = fed-calls f in (_, came-by (c .1 .fresh) (chain.offered (c .1 .called) (call-of o)))
   fed-calls (released f owes) = let c = fed-calls f in (_, came-by (c .1 .fresh) (chain.released (c .1 .called) owes))
+  fed-calls (solved f owes) = let c = fed-calls f in (_, came-by (c .1 .fresh) (chain.solved (c .1 .called) owes))
 
   -- ---- a list of accepted or repeated datagrams
   came-on : {calls : Calls} {S : ℕ} {places : List ℕ} {s t : Session} {r : AfterOffer} → CameBy calls s → Offers row datagrams S s r

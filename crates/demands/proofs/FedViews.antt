@@ -8,7 +8,9 @@ use Rattle.length.specs.Refusals as refusals
 use Rattle.length.specs.Answers.{done, refuse}
 use Rattle.session.specs.View.{View, freshView}
 use Rattle.session.specs.Offer as offers
-use Rattle.demands.specs.Common.History.{afterMove, offer, release}
+use Rattle.solve.specs.Solved.{Solves}
+use Rattle.solve.specs.Solve as solutions
+use Rattle.demands.specs.Common.History.{afterMove, offer, release, solve}
 use Rattle.demands.specs.Demand3.Feeding.{Near, datagramAt}
 
 module _ (row datagrams : List (List ℕ)) where
@@ -17,6 +19,7 @@ module _ (row datagrams : List (List ℕ)) where
     arrives : {view : View} → FedView view → (S : ℕ) → S < length row → Near S view
         → FedView (afterMove (offer (datagramAt datagrams S)) view)
     releases : {view : View} → FedView view → (leave : Bool) (room : ℕ) → FedView (afterMove (release leave room) view)
+    solves : {view : View} → FedView view → Solves view (solutions.solve view) → FedView (afterMove solve view)
 
   -- a list of accepted or repeated datagrams
   pub data TakesViews : List ℕ → View → View → Type 0 where

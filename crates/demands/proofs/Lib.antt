@@ -27,6 +27,7 @@ pub mod Never17
 pub mod SendNever17
 pub mod RoundTrips
 pub mod AlikeReads
+pub mod AlikeReached
 pub mod NotInside
 pub mod Demand2
 pub mod Sheet
@@ -59,6 +60,7 @@ pub mod Front
 pub mod OfferReads
 pub mod RefusedReads
 pub mod RefusedCalls
+pub mod RefusedSolve
 pub mod ImageTexts
 pub mod RefusalPlaces
 pub mod Demand1
@@ -66,6 +68,7 @@ pub mod Sent
 pub mod TrueKept
 pub mod Sound
 pub mod SoundOn
+pub mod SolvedSound
 pub mod FedCalls
 pub mod FedViews
 pub mod Fed
@@ -80,7 +83,15 @@ pub mod SecondReader
 pub mod OneCall
 pub mod ImageCalls
 pub mod Handover
+pub mod Sharp
+pub mod RunInstances
 pub mod Editions
 pub mod Fits
 pub mod Losses
+pub mod SolvedExample
+pub mod CutShortExample
+pub mod KnownLeaves
+pub mod FreshHeld
+pub mod PromiseCases
+pub mod Contracts
 pub mod Claims

@@ -1,40 +1,33 @@
 -- Solving with an honest sender, of sessions and the public calls. What an honest sender sent satisfies all equations, so that the call is
 -- never refused; of two sessions the one that knows and holds more allows no more values. Assumes nothing.
-use Prim.Native.Nat.{ℕ, _+_, _-_, _≤_}
+use Prim.Native.Nat.{ℕ, _+_}
 use mathlib.Core.Path.{_≡_, refl, sym, ap, _∙_, subst}
 use mathlib.Core.Logic.{⊎-elim}
-use mathlib.Core.List.{List, []}
-use lib.ListN.{length, getD, List·getD-eq-default}
-use native.Mathlib.Omega.{arith}
+use mathlib.Core.List.{List}
+use lib.ListN.{getD, List·getD-eq-default}
 use Rattle.octets.proofs.Laws.{below-or-not}
-use Rattle.length.specs.Answers.{Answer, done, refused}
-use Rattle.datagram.specs.Sizes.{packetLimit}
 use Rattle.session.specs.Cells.{Cell, keptNumbers}
 use Rattle.session.specs.Held.{heldMessages}
-use Rattle.session.specs.Honest.{HonestMessages, TrueCells}
+use Rattle.session.specs.Honest.{TrueCells}
 use Rattle.session.specs.View.{View, sum}
-use Rattle.session.proofs.Laws.{held-honest}
 use Rattle.session_held.specs.Table.{viewOf}
 use Rattle.session_held.specs.declared.Session.{Session}
 use Rattle.session_held.proofs.Laws.{in-ranges-true}
 use Rattle.solve.specs.Equations.{padded, Solvable}
-use Rattle.solve.specs.Solved.{SolvedTo, Solves}
-use Rattle.solve.specs.Claims.{Wider, HonestView}
+use Rattle.solve.specs.Solved.{SolvedTo}
+use Rattle.solve.specs.Claims.{Wider}
 use Rattle.solve.proofs.Laws.{padded-same, one-known, sent, sent-solution, honest-fill, solved-right, no-less, together-one}
-use Rattle.solve_code.specs.Outcome.{filledOf}
 use Rattle.solve_code.specs.declared.Solved.the-variants as answer
-use Rattle.solve_code.proofs.Laws.{solved-told}
-use Rattle.sender.specs.Sending.{historyKept}
 use Rattle.sender.specs.Honest.{HonestSender, packetAt}
-use Rattle.session_calls.specs.Receiver.{SeenAs, After}
-use Rattle.session_calls.specs.Solver.{solveOf, SolveOwes}
+use Rattle.session_calls.specs.Receiver.{SeenAs}
+use Rattle.session_calls.specs.Solver.{SolveOwes}
 use Rattle.session_calls.specs.declared.solver.AfterSolve.{AfterSolve}
 use Rattle.session_calls.proofs.SolverClaims as solver
 use Rattle.demands.specs.Demand3.Feeding.{placeOf, sentAt, Fed}
 use Rattle.demands.specs.Demand3.Demand3.{TwoLists}
 use Rattle.demands.specs.Requests.Losses.{Losses}
-use Rattle.demands.proofs.Sent.{packetAt-before, packetAt-sent, packet-sized}
-use Rattle.demands.proofs.Sound.{Sound, held-sound}
+use Rattle.demands.proofs.Sound.{Sound}
+use Rattle.demands.proofs.SolvedSound.{honest-view}
 use Rattle.demands.proofs.Fed.{fed-sound}
 use Rattle.demands.proofs.Lists.{Less, messages-among, views-less}
 use Rattle.demands.proofs.Demand3.{fed-seen, takes-seen, takes-fed}
@@ -46,49 +39,12 @@ record Came (s : Session) (r : AfterSolve) : Type 0 where
 
 came : (s : Session) (r : AfterSolve) → SeenAs (viewOf s) s → SolveOwes s r
     → Solvable ((viewOf s) .cells) (heldMessages ((viewOf s) .held)) → Came s r
-came s r seen owes some = pick (solveOf s) refl
-  where
-    pick : (a : Answer View) → solveOf s ≡ a → Came s r
-    pick (done v) is =
-        let after : SeenAs v (r .session) = subst (λ (x : Answer View). After x s (r .session)) is (owes .state) in
-        record {
-          filled = solved-told (r .answer) answer.Filled (owes .answer ∙ ap filledOf is);
-          solved =
-              subst (SolvedTo (viewOf s)) (sym (after .view))
-              (subst (Solves (viewOf s)) is (solver.claims .meansIt s (in-ranges-true (seen .within))));
-        }
-    pick (refused why) is =
-        absurd (subst (Solves (viewOf s)) is (solver.claims .meansIt s (in-ranges-true (seen .within))) .0 (some .0) (some .1))
+came s r seen owes some =
+    let filled = solver.claims .answers .filled s r owes .1 (in-ranges-true (seen .within), some) in
+    record { filled = filled; solved = solver.claims .answers .solvedTo s r owes filled }
 
 -- ---- an honest sender
 module _ {row datagrams : List (List ℕ)} (honest : HonestSender row datagrams) where
-  -- no packet is over the limit, and before the first and past the last there is none
-  packet-short : (p : ℕ) → length (packetAt row p) ≤ packetLimit
-  packet-short p =
-      ⊎-elim (λ before. rw (packetAt-before row p before) (omega arith))
-      (λ past.
-      let place : p ≡ historyKept + (p - historyKept) = omega arith in
-      subst (λ (x : ℕ). length (packetAt row x) ≤ packetLimit) (sym place)
-      (subst (λ (l : List ℕ). length l ≤ packetLimit) (sym (packetAt-sent row (p - historyKept))) (sized (p - historyKept))))
-      (below-or-not p historyKept)
-    where
-      sized : (S : ℕ) → length (getD row S []) ≤ packetLimit
-      sized S =
-          ⊎-elim (λ low. packet-sized honest S low .1)
-          (λ past. subst (λ (l : List ℕ). length l ≤ packetLimit) (sym (List·getD-eq-default row [] {n = S} past)) (omega arith))
-          (below-or-not S (length row))
-
-  honest-view : {view : View} → Sound row datagrams view → HonestView (sentAt row view) (view .cells) (heldMessages (view .held))
-  honest-view {view} s =
-      record {
-        messagesHonest =
-            subst (λ (n : ℕ). HonestMessages (sentAt row view) n (heldMessages (view .held))) (sym (s .ranges .kept))
-            (held-honest (sentAt row view) (view .held) (omega (arith, s .ranges .heard))
-            (λ j inside. held-sound s j (omega (arith, s .ranges .heard))));
-        cellsTrue = s .right;
-        short = λ p inside. packet-short (placeOf view + p);
-      }
-
   -- a session that it alone feeds
   record SeenSound (s : Session) : Type 0 where
     seen : SeenAs (viewOf s) s
@@ -104,13 +60,17 @@ module _ {row datagrams : List (List ℕ)} (honest : HonestSender row datagrams)
 
   fed-came : {s : Session} {r : AfterSolve} → SeenSound s → SolveOwes s r → Came s r
   fed-came {s} {r} b owes =
-      let h = honest-view (b .sound) in
+      let h = honest-view honest (b .sound) in
       came s r (b .seen) owes
       (sent (sentAt row (viewOf s)) _ _ h, sent-solution (sentAt row (viewOf s)) _ _ h)
 
   -- the base has not moved, so that the sender's packets stand where they stood
   same-sent : {s : Session} {r : AfterSolve} → Came s r → sentAt row (viewOf (r .session)) ≡ sentAt row (viewOf s)
   same-sent c = ap (λ n. λ (p : ℕ). packetAt row (sum n + p)) (c .solved .counts)
+
+  pub fed-same-sent : {s : Session} {r : AfterSolve} → Fed row datagrams s → SolveOwes s r
+      → sentAt row (viewOf (r .session)) ≡ sentAt row (viewOf s)
+  fed-same-sent f owes = same-sent (fed-came (seen-sound f) owes)
 
   -- ---- two lists that the call ends
   module _ {one two : Session} {r q : AfterSolve} (a : SeenSound one) (b : SeenSound two) (less : Less (viewOf one) (viewOf two))
@@ -146,10 +106,10 @@ module _ {row datagrams : List (List ℕ)} (honest : HonestSender row datagrams)
               p;
           firstRight =
               subst (λ (f : ℕ → List ℕ). TrueCells f ((viewOf (r .session)) .cells)) (sym (same-sent c))
-              (solved-right (sentAt row (viewOf one)) _ _ (honest-view (a .sound)) _ (c .solved .cells));
+              (solved-right (sentAt row (viewOf one)) _ _ (honest-view honest (a .sound)) _ (c .solved .cells));
           secondRight =
               subst (λ (f : ℕ → List ℕ). TrueCells f ((viewOf (q .session)) .cells)) (sym (same-sent d))
-              (solved-right (sentAt row (viewOf two)) _ _ (honest-view (b .sound)) _ (d .solved .cells));
+              (solved-right (sentAt row (viewOf two)) _ _ (honest-view honest (b .sound)) _ (d .solved .cells));
           sameBase = c .solved .base ∙ less .base ∙ sym (d .solved .base);
           sameCounts = c .solved .counts ∙ less .counts ∙ sym (d .solved .counts);
         }

@@ -15,7 +15,7 @@ use Rattle.datagram.specs.Sizes.{packetLimit}
 use Rattle.packet.specs.Edition.{Edition, SoundEdition, editionOf, choiceOf, ofChoice}
 use Rattle.packet.specs.Packet.{readPacket}
 use Rattle.packet.specs.Write.{packetToWrite}
-use Rattle.packet.specs.Promise.{PacketTold, packetOutcome}
+use Rattle.packet.specs.Promise.{PacketTold, packetOutcome, ReadBy}
 use Rattle.packet.specs.declared.types.Choice.{Choice}
 use Rattle.packet.specs.declared.types.Choice.the-variants as choice
 use Rattle.packet.specs.declared.types.Ending.{Ending}
@@ -23,7 +23,7 @@ use Rattle.packet.specs.declared.types.Named.{Named}
 use Rattle.packet.specs.declared.types.Named.the-variants.{Old, New}
 use Rattle.packet.specs.declared.types.PacketRead.{PacketRead}
 use Rattle.packet.proofs.Claims as packet-claims
-use Rattle.demands.specs.Common.NamedEdition.{Names, ReadBy, AnotherEdition}
+use Rattle.demands.specs.Common.NamedEdition.{Names, AnotherEdition}
 use Rattle.demands.proofs.PacketRows.{same-number}
 use Rattle.demands.proofs.PacketStops.{over-limit, refused-wrong}
 use Rattle.demands.proofs.PacketCases.{case-of}

@@ -1,7 +1,7 @@
 -- No call on a datagram reads inside a packet: the writers' tables and sizes know lengths alone, and an offer's answer the number
 -- alone. Assumes nothing.
-use Prim.Native.Nat.{ℕ}
-use mathlib.Core.Path.{_≡_, refl, sym, ap, ap₂, _∙_}
+use Prim.Native.Nat.{ℕ, _+_, _<_}
+use mathlib.Core.Path.{_≡_, refl, sym, ap, ap₂, subst, _∙_}
 use mathlib.Core.Bool.{Bool, true, false, cond}
 use mathlib.Core.List.{List, [], _∷_, _++_}
 use mathlib.Core.Option.{Option, none, some}
@@ -9,20 +9,20 @@ use lib.ListN.{length, length-append}
 use lib.Dec.{leb, ltb}
 use native.Mathlib.Omega.{arith}
 use Rattle.length.specs.Refusals.{noRoom, repeated, tooFar, late, outsideRanges}
-use Rattle.length.specs.Answers.{Answer, done, refuse, fitted, sizeOf}
+use Rattle.length.specs.Answers.{Answer, done, refused, refuse, fitted, sizeOf}
 use Rattle.length.specs.Tables.{first, unless}
+use Rattle.length.specs.declared.Refusal.{Refusal}
 use Rattle.length.proofs.Claims.{written-told}
 use Rattle.length.proofs.Laws.{unless-first, done-none}
 use Rattle.datagram.specs.Carried.{Carried}
-use Rattle.datagram.specs.Claims.{ReadsAs}
-use Rattle.datagram.specs.Read.{readDatagram, carriedBy}
+use Rattle.datagram.specs.Read.{DatagramParts, readDatagram, carriedBy}
 use Rattle.datagram.specs.Write.{numberOctets, itemOctets, extraOctets, carriedOf, datagramOctets, datagramWriterRows, datagramToWrite}
 use Rattle.datagram.specs.Promise.{datagramRead}
 use Rattle.datagram.specs.Inner.Heads.{itemSize}
 use Rattle.datagram.specs.declared.kind.Kind.{Kind}
 use Rattle.datagram.proofs.Laws.{written-allowed, datagram-length, item-length}
-use Rattle.datagram.proofs.Claims as datagrams
-use Rattle.session.specs.Cells.{keptAhead}
+use Rattle.session.specs.Cells.{keptAhead, keptNumbers}
+use Rattle.session.specs.Reached.{Known}
 use Rattle.session.specs.View.{View, distance}
 use Rattle.session.specs.Offer as offers
 use Rattle.session.specs.Offer.{acceptedAt, lateFrom, accept}
@@ -30,15 +30,22 @@ use Rattle.session_held.specs.Table.{viewOf}
 use Rattle.session_held.specs.Laid.{sessionInRanges}
 use Rattle.session_held.specs.declared.Session.{Session}
 use Rattle.session_offer.specs.Outcome.{acceptedOf}
-use Rattle.session_calls.specs.Receiver.{offerOf}
+use Rattle.session_held.specs.Promise.{Fresh}
+use Rattle.session_offer.specs.declared.Offered.{Offered}
+use Rattle.session_calls.specs.Receiver.{OfferOwes, offerOf}
+use Rattle.session_calls.specs.declared.receiver.AfterOffer.{AfterOffer}
 use Rattle.session_offer.proofs.Laws.{offered-told}
 use Rattle.sender.specs.Send.{carriedNext}
 use Rattle.sender.specs.Sender.{sendingOf}
 use Rattle.sender.specs.Promise.{senderRows, toSend}
 use Rattle.sender.specs.declared.Sender.{Sender}
 use Rattle.sender.specs.declared.Settings.{Settings}
+use Rattle.demands.specs.Common.Calls.{Calls, offer, _then_, Called, offered, leftBy}
+use Rattle.demands.specs.Demand2.ReachedBy.{gone, ReachedBy}
 use Rattle.demands.specs.NotInside.{AlikeButOctets, NotInside}
-use Rattle.demands.proofs.AlikeReads.{alike-parts}
+use Rattle.demands.proofs.AlikeReads.{alike-reads, alike-long, alike-back, alike-written}
+use Rattle.demands.proofs.AlikeReached.{reached-alike}
+use Rattle.demands.proofs.Demand2.{demand-2}
 
 -- ---- a writer with a table, of octets of one length
 -- the answer, by the sizes alone
@@ -83,13 +90,6 @@ module _ (number : ℕ) (kind : Kind) (lengths packet otherPacket run otherRun :
   write-same old other room =
       rw (← rows-same) (size-same (datagramWriterRows packet kind lengths run) _ _ old other long-same room)
 
--- ---- the datagram reader
-read-same : {s t : List ℕ} → AlikeButOctets s t → readDatagram s ≡ readDatagram t
-read-same {s} {t} a =
-    alike-parts (a .number) (a .packet) (a .kind) (a .lengths) (a .run) s (a .one)
-    ∙ rw (a .oneLength) refl
-    ∙ sym (alike-parts (a .number) (a .otherPacket) (a .kind) (a .lengths) (a .otherRun) t (a .other))
-
 -- ---- send
 around : (front x y back : List ℕ) → length x ≡ length y → length (front ++ (x ++ back)) ≡ length (front ++ (y ++ back))
 around front x y back same =
@@ -133,9 +133,21 @@ offered-as c view =
     pick false again true v = refl
     pick false again false v = refl
 
-offer-as : {s : List ℕ} {c : Carried} → ReadsAs s c → (view : View) → acceptedOf (offers.offer s view) ≡ answered (c .number) view
+offer-as : (s : List ℕ) (parts : DatagramParts) → readDatagram s ≡ done parts → (view : View)
+    → acceptedOf (offers.offer s view) ≡ answered (parts .number) view
+unfolding offers.offer carriedBy
+offer-as s parts e view = rw e (offered-as (carriedBy s parts) view)
+
+offer-not : (s : List ℕ) (why : Refusal) → readDatagram s ≡ refused why → (view : View)
+    → acceptedOf (offers.offer s view) ≡ refused why
 unfolding offers.offer
-offer-as r view = rw (r .read, r .carried) (offered-as _ view)
+offer-not s why e view = rw e
+
+view-same : {s t : List ℕ} → AlikeButOctets s t → (view : View) → acceptedOf (offers.offer s view) ≡ acceptedOf (offers.offer t view)
+view-same {s} {t} a view = by (readDatagram s) refl where
+  by : (r : Answer DatagramParts) → readDatagram s ≡ r → acceptedOf (offers.offer s view) ≡ acceptedOf (offers.offer t view)
+  by (done parts) e = offer-as s parts e view ∙ sym (offer-as t parts (sym (alike-reads a) ∙ e) view)
+  by (refused why) e = offer-not s why e view ∙ sym (offer-not t why (sym (alike-reads a) ∙ e) view)
 
 in-ranges-as : (inside : Bool) (a b : Answer View) → acceptedOf a ≡ acceptedOf b
     → acceptedOf (cond inside a (refuse outsideRanges)) ≡ acceptedOf (cond inside b (refuse outsideRanges))
@@ -144,10 +156,23 @@ in-ranges-as false a b same = refl
 
 offer-same : (session : Session) {s t : List ℕ} → AlikeButOctets s t → acceptedOf (offerOf s session) ≡ acceptedOf (offerOf t session)
 unfolding offerOf
-offer-same session {s} {t} a =
-    let first = datagrams.claims .writtenReads (a .number) (a .packet) (a .kind) (a .lengths) (a .run) s (a .one) in
-    let second = datagrams.claims .writtenReads (a .number) (a .otherPacket) (a .kind) (a .lengths) (a .otherRun) t (a .other) in
-    in-ranges-as (sessionInRanges session) _ _ (offer-as first (viewOf session) ∙ sym (offer-as second (viewOf session)))
+offer-same session {s} {t} a = in-ranges-as (sessionInRanges session) _ _ (view-same a (viewOf session))
+
+answers-same : {session : Session} {s t : List ℕ} → AlikeButOctets s t → {r q : AfterOffer} → OfferOwes session s r
+    → OfferOwes session t q → r .answer ≡ q .answer
+answers-same {session} a {r} {q} p t = offered-told (r .answer) (q .answer) (p .answer ∙ offer-same session a ∙ sym (t .answer))
+
+-- ---- the numbers that are then known
+known-as : {first session : Session} {calls : Calls} → Fresh first → Called first calls session → {s t : List ℕ} → AlikeButOctets s t
+    → {r q : AfterOffer} → OfferOwes session s r → OfferOwes session t q → (p : ℕ) → p < keptNumbers
+    → Known ((viewOf (r .session)) .cells) p → Known ((viewOf (q .session)) .cells) p
+unfolding leftBy
+known-as {calls = calls} fresh called {s} {t} a {r} {q} owes other p small known =
+    let reached = demand-2 .knownNumbers fresh (offered called owes) p small .0 known in
+    let answer = answers-same a owes other in
+    demand-2 .knownNumbers fresh (offered called other) p small .1
+    (subst (λ (x : Offered). ReachedBy (calls then offer t x) (gone (calls then offer t x) + p)) answer
+    (reached-alike calls s t (r .answer) (alike-reads a) (alike-long a) reached))
 
 pub not-inside : NotInside
 not-inside =
@@ -155,9 +180,13 @@ not-inside =
       write = λ number kind lengths packet otherPacket run otherRun one two {old} {new} {otherOld} {otherNew} {r} {q} room p t.
           written-told r q
           (p .answer ∙ write-same number kind lengths packet otherPacket run otherRun one two old otherOld room ∙ sym (t .answer));
-      read = λ a p t. p .whole ∙ ap datagramRead (read-same a) ∙ sym (t .whole);
-      offer = λ {session} a {r} {q} p t.
-          offered-told (r .answer) (q .answer) (p .answer ∙ offer-same session a ∙ sym (t .answer));
+      alike = alike-written;
+      read = λ a p t. p .whole ∙ ap datagramRead (alike-reads a) ∙ sym (t .whole);
+      offer = λ {session} a p t. answers-same a p t;
+      offerKnown = λ fresh called a owes other p small. (
+        known-as fresh called a owes other p small,
+        known-as fresh called (alike-back a) other owes p small,
+      );
       send = λ {s} {settings} {packet} {otherPacket} one {old} {new} {otherOld} {otherNew} {r} {q} room p t.
           written-told (r .answer) (q .answer)
           (p .answer ∙ send-same s settings packet otherPacket one old otherOld room ∙ sym (t .answer));

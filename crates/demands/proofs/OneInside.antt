@@ -96,9 +96,9 @@ keep-line-one new other r q a b =
 in-lines : InLines
 in-lines =
     record {
-      putOctets = λ octets old at. appends-one;
+      putDigits = λ octets old at. appends-one;
       pairUp = λ line old. told-one;
-      putResult = λ kind number octets old at. appends-one;
+      putKept = λ kind number octets old at. appends-one;
       putRefusal = λ why old at. appends-one;
       keepLine = λ old begun more. keep-line-one;
       clearLine = λ r q a b. line-one a b refl;

@@ -3,7 +3,9 @@ use Prim.Native.Nat.{ℕ}
 use mathlib.Core.List.{List}
 use Rattle.length.specs.Answers.{Answer}
 use Rattle.length.specs.Length.{lengthToWrite}
+use Rattle.length.specs.Promise.{Puts}
 use Rattle.datagram.specs.Write.{datagramToWrite}
+use Rattle.session_held.specs.Table.{lentBy}
 use Rattle.image.specs.Layout.{versionWritten}
 use Rattle.image.specs.Image.{imageToWrite}
 use Rattle.length.proofs.Claims as lengths
@@ -16,14 +18,14 @@ use Rattle.line.proofs.Claims as lines
 use Rattle.frame.proofs.Claims as frames
 use Rattle.frame_feed.proofs.Claims as frameFeed
 use Rattle.trace_replay.proofs.Claims as replays
-use Rattle.demands.specs.Common.NamedEdition.{packetBy}
 use Rattle.trace_compare.proofs.Claims as comparisons
+use Rattle.packet.specs.Promise.{packetBy}
 use Rattle.demands.specs.OneOutcome.OneOutcome.{OneWrite, OneOutcome}
 use Rattle.demands.proofs.OneTold.{one-told}
 use Rattle.demands.proofs.OneInside.{one-inside}
 use Rattle.demands.proofs.ImageCalls.{read-one}
 
-one-write : (w : Answer (List ℕ)) → OneWrite w
+one-write : (w : Answer (List ℕ)) → OneWrite (Puts w)
 one-write w old new other r q a b = lengths.claims .oneOutcome .written a b
 
 pub one-outcome : OneOutcome
@@ -38,7 +40,8 @@ one-outcome =
             length = λ n. one-write (lengthToWrite n);
             datagram = λ number packet kind lengths run. one-write (datagramToWrite number packet kind lengths run);
             packet = λ octet kind value types lengths octets. one-write (packetBy octet kind value types lengths octets);
-            image = λ session. one-write (imageToWrite versionWritten session);
+            image = λ s. one-write (imageToWrite versionWritten (lentBy s));
+            imageCore = λ session. one-write (imageToWrite versionWritten session);
           };
       receiver = sessions.claims .oneOutcome;
       solver = solver.claims .oneOutcome;

@@ -27,7 +27,7 @@ use Rattle.demands.proofs.PacketPlaces.{due-count, due-length, due-data
 use Rattle.demands.proofs.PacketValues.{cut-rows}
 use Rattle.demands.proofs.PacketInFront.{from-front}
 use Rattle.demands.proofs.PacketFronts.{due-more, in-front}
-use Rattle.demands.proofs.PacketFinish.{lacking, finish-data, finish-sized, finish-length, finish-header, finish-fields}
+use Rattle.demands.proofs.PacketFinish.{one-octet, zeros-octets, two-zeros, lacking, finish-data, finish-sized, finish-length, finish-header, finish-fields}
 use Rattle.demands.proofs.PacketFinish.{finish-count, finish-first}
 
 -- ---- the item that is missing or cut
@@ -37,7 +37,7 @@ at-the-end : {edition : Edition} {s : List ℕ} {p : Place} {item : Item} → Du
 at-the-end {edition} {s} {item = item} due is = subst (λ (q : Place). Due edition s q item) is due
 
 pub early-first : (named : Named) (s : List ℕ) → CutValue (firstValues (editionOf named) s) s 2 → EndsEarly (editionOf named) s
-early-first named [] cut = lacking [] (0 ∷ []) (omega arith) (finish-first named)
+early-first named [] cut = lacking [] (0 ∷ []) (one-octet 0 (omega arith)) (omega arith) (finish-first named)
 early-first named (a ∷ s) cut = inFirst (omega arith) cut
 
 -- a count is missing, or cut after the first of its two octets
@@ -46,7 +46,7 @@ pub early-count : (named : Named) (s : List ℕ) (p : Place) → Due (editionOf 
 early-count named s p due none-there =
     let here = due-count due in
     let inside = due-inside due in
-    lacking s (1 ∷ []) (omega arith) (finish-count named s (at-the-end due (omega (arith, length-drop (p / 8) s))))
+    lacking s (1 ∷ []) (one-octet 1 (omega arith)) (omega arith) (finish-count named s (at-the-end due (omega (arith, length-drop (p / 8) s))))
 
 some-there : (rest : List ℕ) → 0x80 ≤ getD rest 0 0 → 1 ≤ length rest
 some-there [] high = absurd (omega arith)
@@ -66,7 +66,7 @@ early-header named left s p due cut = by (below-or-not p (8 * length s)) where
   by : (p < 8 * length s) ⊎ (8 * length s ≤ p) → EndsEarly (editionOf named) s
   by (inl begun) = inHeader p left due begun cut
   by (inr missing) =
-      lacking s (0x80 ∷ []) (omega arith)
+      lacking s (0x80 ∷ []) (one-octet 0x80 (omega arith)) (omega arith)
       (finish-header named left s (finish-fields named left) (at-the-end due (omega (arith, due-inside due))))
 
 pub early-data : (named : Named) (size left : ℕ) (s : List ℕ) (p : Place) → Due (editionOf named) s p (fieldData size left)
@@ -75,7 +75,7 @@ early-data named size left s p due cut =
     let edge = due-data size left due in
     let inside = due-inside due in
     let lack = size - (length s - p / 8) in
-    lacking s (replicate lack 0) (omega (arith, length-replicate {A = ℕ} lack 0))
+    lacking s (replicate lack 0) (zeros-octets lack) (omega (arith, length-replicate {A = ℕ} lack 0))
     (finish-data named size left s p lack (finish-fields named left) due (omega arith))
 
 one-left : (rest : List ℕ) → length rest ≡ 1 → rest ≡ getD rest 0 0 ∷ []
@@ -95,7 +95,7 @@ early-size named left s p due cut = by (below-or-not p (8 * length s)) (below-or
 
   by : (p < 8 * length s) ⊎ (8 * length s ≤ p) → (0 < octetHere s p) ⊎ (octetHere s p ≤ 0) → EndsEarly (editionOf named) s
   by (inr missing) first-octet =
-      lacking s (0 ∷ 0 ∷ []) (omega arith) (finish-length named left s (finish-fields named left) (at-the-end due (omega (arith, inside))))
+      lacking s (0 ∷ 0 ∷ []) two-zeros (omega arith) (finish-length named left s (finish-fields named left) (at-the-end due (omega (arith, inside))))
   by (inl begun) (inl large) = inLength p left due (omega (arith, edge)) large
   by (inl begun) (inr nothing) =
       let zero-there : octetHere s p ≡ 0 = omega arith in
@@ -103,7 +103,7 @@ early-size named left s p due cut = by (below-or-not p (8 * length s)) (below-or
       from-front s (0 ∷ []) p inside
       ∙ ap (λ (l : List ℕ). l ++ 0 ∷ [])
       (one-left (octetsFrom s p) (omega (arith, edge, length-drop (p / 8) s)) ∙ ap (λ (a : ℕ). a ∷ []) zero-there) in
-      lacking s (0 ∷ []) (omega arith)
+      lacking s (0 ∷ []) (one-octet 0 (omega arith)) (omega arith)
       (finish-sized named left (s ++ 0 ∷ []) p (finish-fields named left) (due-more (narrow named) due (0 ∷ []))
       (omega (arith, edge, length-append s (0 ∷ []))) zeros)
 
@@ -128,7 +128,7 @@ proper ending s more least (inr cut) = cut .1
 pub of-early : {edition : Edition} → NarrowEdition edition → (ending : Ending) (s : List ℕ) → EndsEarly edition s
     → FirstWrong edition ending s endsEarly
 unfolding rows
-of-early narrow ending s (front more least whole) = proper ending s more least (in-front narrow ending s more whole)
+of-early narrow ending s (front more octets least whole) = proper ending s more least (in-front narrow ending s more whole)
 of-early {edition} narrow ending s (inCount p due there high low) =
     record {
       item = countOfFields;

@@ -1,6 +1,6 @@
 -- Wherever an item is due at the end of some octets, a packet can be finished from there, with fields of type 0 and data of zeros.
 -- Assumes nothing.
-use Prim.Native.Nat.{ℕ, zero, suc, _+_, _-_, _*_, _/_, _%_, _≤_}
+use Prim.Native.Nat.{ℕ, zero, suc, _+_, _-_, _*_, _/_, _%_, _≤_, _<_}
 use mathlib.Core.Path.{_≡_, refl, sym, ap, subst, _∙_}
 use mathlib.Core.Bool.{Bool, true, false, not, cond}
 use mathlib.Core.List.{List, [], _∷_, _++_, append-assoc, append-nil}
@@ -12,6 +12,7 @@ use native.Mathlib.Omega.{arith}
 use borrow.Author.Tests.{le-ltb, lt-ltb}
 use Rattle.length.specs.Refusals.{endsEarly, outsideSizes, spareBit, notAssigned, wrongData}
 use Rattle.length.specs.Tables.{first}
+use Rattle.length.specs.Claims.{Octets}
 use Rattle.format.specs.Spelling.{gap}
 use Rattle.format.specs.Places.{Place, bitsAt}
 use Rattle.datagram.specs.Sizes.{packetLimit}
@@ -33,21 +34,50 @@ use Rattle.demands.proofs.PacketPlaces.{countRows, count-rows, count-pa
 use Rattle.demands.proofs.PacketValues.{endsBy, rowsBy}
 use Rattle.demands.proofs.PacketFronts.{due-more}
 
+-- ---- lists of octets
+octets-none : Octets []
+octets-none i = omega arith
+
+octets-put : (x : ℕ) (l : List ℕ) → x < 256 → Octets l → Octets (x ∷ l)
+octets-put x l small rest zero = small
+octets-put x l small rest (suc i) = rest i
+
+octets-join : (a b : List ℕ) → Octets a → Octets b → Octets (a ++ b)
+octets-join [] b p q = q
+octets-join (x ∷ a) b p q = octets-put x (a ++ b) (p 0) (octets-join a b (λ i. p (suc i)) q)
+
+pub one-octet : (x : ℕ) → x < 256 → Octets (x ∷ [])
+one-octet x small = octets-put x [] small octets-none
+
+pub zeros-octets : (n : ℕ) → Octets (replicate n 0)
+zeros-octets zero = octets-none
+zeros-octets (suc n) = octets-put 0 (replicate n 0) (omega arith) (zeros-octets n)
+
+pub two-zeros : Octets (0 ∷ 0 ∷ [])
+two-zeros = octets-put 0 (0 ∷ []) (omega arith) (one-octet 0 (omega arith))
+
 -- ---- a packet can be finished wherever an item is due at the end
 pub record Finished (edition : Edition) (s : List ℕ) : Type 0 where
   pub more : List ℕ
+  pub octets : Octets more
   pub whole : Packet edition (s ++ more)
 
 -- some octets, and then the finish
-and-then : {edition : Edition} (s octets : List ℕ) → Finished edition (s ++ octets) → Finished edition s
-and-then {edition} s octets f =
-    record { more = octets ++ f .more; whole = subst (Packet edition) (append-assoc s octets (f .more)) (f .whole) }
+and-then : {edition : Edition} (s octets : List ℕ) → Octets octets → Finished edition (s ++ octets) → Finished edition s
+and-then {edition} s octets small f =
+    record {
+      more = octets ++ f .more;
+      octets = octets-join octets (f .more) small (f .octets);
+      whole = subst (Packet edition) (append-assoc s octets (f .more)) (f .whole);
+    }
 
 -- so octets that lack some are a front of a packet
-pub lacking : {edition : Edition} (s octets : List ℕ) → 1 ≤ length octets → Finished edition (s ++ octets) → EndsEarly edition s
+pub lacking : {edition : Edition} (s octets : List ℕ) → Octets octets → 1 ≤ length octets → Finished edition (s ++ octets)
+    → EndsEarly edition s
 unfolding and-then
-lacking s octets least f =
-    front (octets ++ f .more) (omega (arith, length-append octets (f .more))) (and-then s octets f .whole)
+lacking s octets small least f =
+    front (octets ++ f .more) (octets-join octets (f .more) small (f .octets)) (omega (arith, length-append octets (f .more)))
+    (and-then s octets small f .whole)
 
 -- octets put at the end stand there
 at-end : (s octets : List ℕ) → octetsFrom (s ++ octets) (8 * length s) ≡ octets
@@ -172,7 +202,7 @@ pub finish-sized : (named : Named) (left : ℕ) (s : List ℕ) (p : Place)
     → ((t : List ℕ) → Due (editionOf named) t (8 * length t) (fields left) → Finished (editionOf named) t)
     → Due (editionOf named) s p (dataLength left) → p + 16 ≡ 8 * length s → octetsFrom s p ≡ 0 ∷ 0 ∷ [] → Finished (editionOf named) s
 finish-sized named left s p on due there zeros =
-    and-then s (0 ∷ []) (finish-data named 1 left s (8 * length s) 1 on (length-ends left s p due there zeros) (omega arith))
+    and-then s (0 ∷ []) (one-octet 0 (omega arith)) (finish-data named 1 left s (8 * length s) 1 on (length-ends left s p due there zeros) (omega arith))
 
 pub finish-length : (named : Named) (left : ℕ) (s : List ℕ)
     → ((t : List ℕ) → Due (editionOf named) t (8 * length t) (fields left) → Finished (editionOf named) t)
@@ -187,11 +217,13 @@ pub finish-header : (named : Named) (left : ℕ) (s : List ℕ)
     → Due (editionOf named) s (8 * length s) (header left) → Finished (editionOf named) (s ++ 0x80 ∷ [])
 finish-header named left s on due =
     let t : List ℕ = s ++ 0x80 ∷ [] in
-    and-then t (0 ∷ 0 ∷ []) (finish-length named left t on (header-then named left s due))
+    and-then t (0 ∷ 0 ∷ []) two-zeros (finish-length named left t on (header-then named left s due))
 
 pub finish-fields : (named : Named) (n : ℕ) (s : List ℕ) → Due (editionOf named) s (8 * length s) (fields n) → Finished (editionOf named) s
-finish-fields named zero s due = record { more = []; whole = subst (Packet (editionOf named)) (sym (append-nil s)) (edge-passes s end due) }
-finish-fields named (suc n) s due = and-then s (0x80 ∷ []) (finish-header named n s (finish-fields named n) due)
+finish-fields named zero s due =
+    record { more = []; octets = octets-none; whole = subst (Packet (editionOf named)) (sym (append-nil s)) (edge-passes s end due) }
+finish-fields named (suc n) s due =
+    and-then s (0x80 ∷ []) (one-octet 0x80 (omega arith)) (finish-header named n s (finish-fields named n) due)
 
 -- a count of 1, and the first value of indicator 0
 pub finish-count : (named : Named) (s : List ℕ) → Due (editionOf named) s (8 * length s) countOfFields

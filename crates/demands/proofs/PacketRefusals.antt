@@ -19,14 +19,14 @@ use Rattle.format.specs.Places.{Place}
 use Rattle.datagram.specs.Sizes.{packetLimit}
 use Rattle.packet.specs.Edition.{Edition, editionOf}
 use Rattle.packet.specs.Packet.{mayFollow, readPacket}
-use Rattle.packet.specs.Promise.{PacketTold, packetOutcome}
+use Rattle.packet.specs.Promise.{PacketTold, packetOutcome, ReadBy}
 use Rattle.packet.specs.declared.types.Named.{Named}
 use Rattle.packet.specs.declared.types.Ending.{Ending}
 use Rattle.packet.specs.declared.types.Ending.the-variants.{Whole, Repaired}
 use Rattle.packet.specs.declared.types.PacketRead.{PacketRead}
 use Rattle.length.specs.Tables.{first, refusalIn}
 use Rattle.packet_laws.proofs.Laws.{narrow}
-use Rattle.demands.specs.Common.NamedEdition.{Names, ReadBy}
+use Rattle.demands.specs.Common.NamedEdition.{Names}
 use Rattle.demands.specs.Demand1.PacketItems.{Item, end, octetOf, rows, octetsFrom, Due, Packet}
 use Rattle.demands.specs.Demand1.PacketRefusals.{FirstWrong, PacketThen}
 use Rattle.demands.specs.Demand1.PacketRefusals.{PacketRefusals}

@@ -6,10 +6,11 @@ use mathlib.Core.Bool.{Bool, true, false, not, cond, _&&_}
 use mathlib.Core.List.{List}
 use lib.ListN.{length}
 use lib.Dec.{leb, ltb}
-use Rattle.length.specs.Refusals.{refusal, repeated, tooFar, late, baseUnknown, noRoom, wrongSettings, allPassed, outsideRanges}
+use Rattle.length.specs.Refusals.{refusal, outsideSizes, repeated, tooFar, late, baseUnknown, noRoom}
+use Rattle.length.specs.Refusals.{wrongSettings, allPassed, outsideRanges}
 use Rattle.length.specs.Answers.{Answer, done, refused, refuse, _>>=_, fitted}
 use Rattle.length.specs.Tables.{placeIn}
-use Rattle.length.specs.Length.{lengthAt, lengthToWrite}
+use Rattle.length.specs.Length.{lengthAt, within, allowed, lengthWithin, lengthToWrite}
 use Rattle.length.specs.declared.Refusal.{Refusal}
 use Rattle.length.proofs.Laws.{AtFront, refuse-front, done-front, cond-front, length-front}
 use Rattle.length.proofs.Laws.{unless-front, fitted-front, front-place, mapped-place, puts-place}
@@ -22,6 +23,7 @@ use Rattle.packet.specs.Write.{packetToWrite}
 use Rattle.packet.specs.declared.types.Choice.{Choice}
 use Rattle.packet.specs.declared.types.Choice.the-variants as choice
 use Rattle.packet.specs.declared.types.PacketKind as packets
+use Rattle.packet.specs.Promise.{packetBy}
 use Rattle.session.specs.Cells.{unknownAt, keptBefore, keptAhead}
 use Rattle.session.specs.View.{View, sum, distance, sessionLimit}
 use Rattle.session.specs.Offer as offers
@@ -39,7 +41,6 @@ use Rattle.frame.specs.Promise.{fieldAnswer, lossAnswer}
 use Rattle.frame.specs.declared.Joiner.{Joiner}
 use Rattle.image.specs.Layout.{imageVersion02}
 use Rattle.image.specs.Image.{readText, imageToWrite}
-use Rattle.demands.specs.Common.NamedEdition.{packetBy}
 use Rattle.demands.specs.Demand1.Demand1.{Places}
 use Rattle.demands.proofs.ImageTexts.{refused-only}
 
@@ -77,6 +78,13 @@ release-front leave room s =
     (cond-front (unknownAt ((viewOf s) .cells) keptBefore && not leave) (refuse-front baseUnknown)
     (cond-front (ltb room (length ((atBase (viewOf s)) .octets))) (refuse-front noRoom) (done-front _))))
     (refuse-front outsideRanges)
+
+-- ---- a length within sizes
+within-place : (least most : ℕ) (s : List ℕ) → placeIn (lengthWithin least most s) ≡ 0
+unfolding lengthWithin allowed
+within-place least most s =
+    bind-place (lengthAt s) (allowed least most) (λ l. cond-front (within least most (l .value)) (done-front l) (refuse-front outsideSizes))
+    ∙ front-place (lengthAt s) (length-front s)
 
 -- ---- what follows from a table
 length-writer : (n : ℕ) → AtFront (lengthToWrite n)
@@ -132,6 +140,7 @@ pub places : Places
 places =
     record {
       length = λ {octets = s} p. ap placeIn (p .answer) ∙ front-place (lengthAt s) (length-front s);
+      lengthWithin = λ {least} {most} {octets = s} p. ap placeIn (p .answer) ∙ within-place least most s;
       offer = λ {s} {octets} p q.
           ap placeIn (p .answer) ∙ mapped-place _ (offerOf octets s) ∙ offer-place octets s
           ∙ ap (λ (k : ℕ). cond (sessionInRanges s) k 0) (sym (ap placeIn (q .answer)));

@@ -3,18 +3,18 @@ use Prim.Native.Nat.{ℕ, _+_, _-_}
 use mathlib.Core.Path.{_≡_, refl, sym, ap, _∙_}
 use mathlib.Core.Logic.{_↔_, _⊎_, ⊎-elim}
 use mathlib.Core.Bool.{Bool, true, false, not, cond, _&&_}
-use mathlib.Core.List.{List, [], _∷_, map}
-use mathlib.Core.Option.{Option, none}
+use mathlib.Core.List.{List, [], _∷_, _++_, map}
+use mathlib.Core.Option.{Option, none, some}
 use lib.ListN.{length, getD, replicate, length-append, length-replicate}
 use lib.Dec.{leb, ltb}
 use native.Mathlib.Omega.{arith}
 use borrow.Author.Tests.{lt-ltb, le-ltb, le-leb, lt-leb, ltb-true}
 use Rattle.octets.proofs.Laws.{below-or-not}
-use Rattle.length.specs.Refusals.{endsEarly, badForm}
-use Rattle.length.specs.Answers.{done, refuse}
+use Rattle.length.specs.Refusals.{endsEarly, badForm, outsideSizes}
+use Rattle.length.specs.Answers.{Answer, done, refused, refuse, _>>=_, LengthAnswer}
 use Rattle.length.specs.Tables.{when, first, refusalIn}
-use Rattle.length.specs.Length.{lengthAt, ofTwo}
-use Rattle.length.proofs.Laws.{done-none}
+use Rattle.length.specs.Length.{lengthAt, ofTwo, within, allowed, lengthWithin}
+use Rattle.length.proofs.Laws.{done-none, done-same}
 use Rattle.length.specs.Claims.{Octets}
 use Rattle.datagram.specs.Read.{octetsOf, readDatagram}
 use Rattle.datagram.specs.Claims.{lengthsOf, runOf}
@@ -24,7 +24,7 @@ use Rattle.packet.specs.Packet.{allData, readPacket}
 use Rattle.packet.specs.declared.types.Ending.the-variants.{Whole, Repaired}
 use Rattle.packet.specs.declared.types.Named.{Named}
 use Rattle.packet.proofs.Claims as packet-claims
-use Rattle.demands.specs.Demand1.Refusals.{lengthRows}
+use Rattle.demands.specs.Demand1.Refusals.{lengthRows, lengthHere, withinRows}
 use Rattle.demands.specs.Demand1.Demand1.{IsDatagram, IsPacket, IsRepaired, Readers}
 use Rattle.demands.proofs.Front.{repaired-front}
 use Rattle.demands.proofs.PacketRefusals.{packet-refusals}
@@ -58,6 +58,53 @@ length-rows s =
     (length-tests (ltb (length s) 1) (ltb (getD s 0 0) 0x80) (leb 0xC0 (getD s 0 0)) (ltb (length s) 2)
     (ltb (ofTwo (getD s 0 0) (getD s 1 0)) 0x80) _ _
     (λ low. lt-leb 0xC0 (getD s 0 0) (omega (arith, ltb-true (getD s 0 0) 0x80 low))))
+
+-- what a length's form does not refuse is the length at hand
+value-tests : (b₁ b₂ b₃ b₄ b₅ : Bool) (x y a : LengthAnswer)
+    → cond b₁ (refuse endsEarly) (cond b₂ (done x)
+    (cond b₃ (refuse badForm) (cond b₄ (refuse endsEarly) (cond b₅ (refuse badForm) (done y)))))
+    ≡ done a → cond b₂ (x .value) (y .value) ≡ a .value
+value-tests true b₂ b₃ b₄ b₅ x y a e = let z : _≡_ {A = ℕ} 0 1 = cc in absurd (omega arith)
+value-tests false true b₃ b₄ b₅ x y a e = ap (λ (l : LengthAnswer). l .value) (done-same e)
+value-tests false false true b₄ b₅ x y a e = let z : _≡_ {A = ℕ} 0 1 = cc in absurd (omega arith)
+value-tests false false false true b₅ x y a e = let z : _≡_ {A = ℕ} 0 1 = cc in absurd (omega arith)
+value-tests false false false false true x y a e = let z : _≡_ {A = ℕ} 0 1 = cc in absurd (omega arith)
+value-tests false false false false false x y a e = ap (λ (l : LengthAnswer). l .value) (done-same e)
+
+length-here : (s : List ℕ) (a : LengthAnswer) → lengthAt s ≡ done a → lengthHere s ≡ a .value
+unfolding lengthAt
+length-here s a e =
+    value-tests (ltb (length s) 1) (ltb (getD s 0 0) 0x80) (leb 0xC0 (getD s 0 0)) (ltb (length s) 2)
+    (ltb (ofTwo (getD s 0 0) (getD s 1 0)) 0x80) _ _ a e
+
+-- rows before others: none of them applies, or one does
+rows-none : (rows more : List (Option ℕ)) → first rows ≡ none → first (rows ++ more) ≡ first more
+unfolding first
+rows-none [] more e = refl
+rows-none (some n ∷ rows) more e = let z : _≡_ {A = ℕ} 0 1 = cc in absurd (omega arith)
+rows-none (none ∷ rows) more e = rows-none rows more e
+
+rows-some : (rows more : List (Option ℕ)) (n : ℕ) → first rows ≡ some n → first (rows ++ more) ≡ some n
+unfolding first
+rows-some [] more n e = let z : _≡_ {A = ℕ} 0 1 = cc in absurd (omega arith)
+rows-some (some k ∷ rows) more n e = e
+rows-some (none ∷ rows) more n e = rows-some rows more n e
+
+allowed-row : (b : Bool) (l : LengthAnswer) → refusalIn (cond b (done l) (refuse outsideSizes)) ≡ first (when (not b) outsideSizes ∷ [])
+unfolding first
+allowed-row true l = refl
+allowed-row false l = refl
+
+within-rows : (least most : ℕ) (s : List ℕ) → refusalIn (lengthWithin least most s) ≡ first (withinRows least most s)
+unfolding lengthWithin withinRows allowed
+within-rows least most s = by (lengthAt s) refl where
+  by : (a : Answer LengthAnswer) → lengthAt s ≡ a
+      → refusalIn (_>>=_ a (allowed least most)) ≡ first (lengthRows s ++ (when (not (within least most (lengthHere s))) outsideSizes ∷ []))
+  by (done l) e =
+      allowed-row (within least most (l .value)) l
+      ∙ ap (λ (v : ℕ). first (when (not (within least most v)) outsideSizes ∷ [])) (sym (length-here s l e))
+      ∙ sym (rows-none (lengthRows s) _ (sym (length-rows s) ∙ ap refusalIn e))
+  by (refused why) e = sym (rows-some (lengthRows s) _ (why .number) (sym (length-rows s) ∙ ap refusalIn e))
 
 -- ---- readers
 is-datagram : (s : List ℕ) → Octets s → (refusalIn (readDatagram s) ≡ none) ↔ IsDatagram s
@@ -126,6 +173,7 @@ pub readers : Readers
 readers =
     record {
       length = λ {octets = s} {r} p. ap refusalIn (p .answer) ∙ length-rows s;
+      lengthWithin = λ {least} {most} {octets = s} {r} p. ap refusalIn (p .answer) ∙ within-rows least most s;
       datagram = λ p. ap refusalIn (p .answer);
       packet = λ octet ending s p. ap refusalIn (p .answer);
       isDatagram = λ {octets = s} octets p. of-call (ap refusalIn (p .answer)) (is-datagram s octets);

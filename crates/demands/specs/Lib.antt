@@ -7,4 +7,8 @@ pub mod NotInside
 pub mod OneOutcome
 pub mod Program
 pub mod Requests
+pub mod Sharp
+pub mod RunInstances
+pub mod PromiseCases
+pub mod Contracts
 pub mod Claims

@@ -1,3 +1,4 @@
+pub mod Cases
 mod Standing
 mod Lawful
 mod Parts

@@ -3,3 +3,4 @@ pub mod Reading
 pub mod Format
 pub mod Places
 pub mod Waiting
+pub mod Cases

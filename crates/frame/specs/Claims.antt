@@ -2,7 +2,7 @@
 -- (rules 16.17, 16.19 and 17.4). Definitions only.
 use Prim.Native.Nat.{ℕ, _≤_}
 use mathlib.Core.Path.{_≡_}
-use mathlib.Core.Bool.{true}
+use mathlib.Core.Bool.{true, false}
 use mathlib.Core.List.{List, [], _∷_, _++_}
 use lib.ListN.{length, take}
 use Rattle.length.specs.Refusals.{refusal, outsideRanges}
@@ -11,7 +11,7 @@ use Rattle.frame.specs.Joiner.{joiningOf, joinerInRanges}
 use Rattle.frame.specs.Promise.{FieldOwes, LossOwes, FreshMade}
 use Rattle.frame.specs.Line.{Field, rowRight, sendersFrames, Cut, rowOf, framesLeft, Event, aField, aLoss, eventsOn, noneLost}
 use Rattle.frame.specs.Line.{handedBy}
-use Rattle.frame.specs.Cases.{Cases}
+use Rattle.frame.specs.Cases.{lineWith, freshJoiner, Cases}
 use Rattle.frame.specs.declared.Joiner.{Joiner}
 use Rattle.frame.specs.declared.Joined.{Joined}
 use Rattle.frame.specs.declared.Handed.{Handed}
@@ -76,9 +76,19 @@ pub record AnyEvents : Type 0 where
   pub handed : {j : Joiner} {events : List Event} {frames : List Frame} → HandedOut j → HandsOut j events frames
       → frames ≡ handedBy (joiningOf j) events
 
+-- ---- the claims above say something: from a fresh joiner on, the calls for the line of `LineCases` return these frames, and so all that
+-- `HonestLine` and `AnyEvents` require can be met (rules 16.17 and 16.19)
+pub record LineExample : Type 0 where
+  -- whatever is fed to whatever joiner, the promises allow an answer to each call
+  pub answers : (j : Joiner) (events : List Event) → (frames : List Frame) × HandsOut j events frames
+  pub whole : HandsOut freshJoiner (eventsOn (lineWith false false false false))
+      (good (0xAA ∷ []) ∷ bad (0xBB ∷ []) ∷ good (0xCC ∷ 0xDD ∷ []) ∷ bad (0xEE ∷ []) ∷ [])
+  pub secondLost : HandsOut freshJoiner (eventsOn (lineWith false true false false)) (good (0xAA ∷ []) ∷ bad (0xEE ∷ []) ∷ [])
+
 pub record Claims : Type 0 where
   pub oneOutcome : OneOutcome
   pub never17 : Never17
   pub honestLine : HonestLine
   pub anyEvents : AnyEvents
+  pub lineExample : LineExample
   pub cases : Cases

@@ -1,2 +1,2 @@
-mod Turning
 pub mod Claims
+mod Turning

@@ -1,10 +1,11 @@
 -- The host's call that solves all held messages together, on plain values: what the library's call promises, encoded as numbers.
 -- Assumes nothing.
 use Prim.Native.Nat.{ℕ}
-use mathlib.Core.Path.{_≡_, refl, sym, ap, _∙_}
+use mathlib.Core.Path.{_≡_, refl, sym, ap, subst, _∙_}
 use mathlib.Core.Bool.{Bool, true, false}
 use mathlib.Core.List.{List}
 use Rattle.length.specs.Refusals.{outsideRanges}
+use Rattle.length.specs.Answers.{Answer}
 use Rattle.length.specs.declared.Refusal.{Refusal}
 use Rattle.session.specs.View.{View}
 use Rattle.session_held.specs.Table.{lentBy}
@@ -14,8 +15,8 @@ use Rattle.solve_code.specs.Outcome.{solvedOutcome}
 use Rattle.solve_code.specs.Promise.{Solving}
 use Rattle.solve_code.specs.declared.Solved.{Solved}
 use Rattle.solve_code.specs.declared.Solved.the-variants as solved
-use Rattle.session_calls.specs.Solver.{solveOf}
-use Rattle.session_calls.proofs.Laws.{solve-outside, solve-inside, after-same}
+use Rattle.session_calls.specs.Receiver.{After}
+use Rattle.session_calls.proofs.Laws.{solve-outside, solve-inside, after-same, one-answer}
 use Rattle.host_answers.specs.Answers.{told}
 use Rattle.host_answers.proofs.Laws.{told-mapped}
 use Rattle.host.specs.Receiver.{sessionIn, RangesHosted}
@@ -41,7 +42,9 @@ pub solve-hosted : {h : Head} {t o g t₂ o₂ : List ℕ} {answer : Solved} {r 
 solve-hosted {h} {t} {o} {g} within m from =
     let owes = solve-inside {s = sessionIn h t o g} {ok = true} (sym (in-ranges-true within)) refl m in
     record {
-      answer = from .is ∙ ap told (owes .answer) ∙ told-mapped (λ (view : View). tt) (solveOf (sessionIn h t o g));
+      wanted = owes .wanted;
+      means = owes .means;
+      answer = from .is ∙ ap told (owes .answer) ∙ told-mapped (λ (view : View). tt) (owes .wanted);
       state = owes .state;
     }
 
@@ -50,7 +53,9 @@ pub solve-refused : {h : Head} {t o g : List ℕ} {ok : Bool} → RangesHosted h
 solve-refused {h} {t} {o} {g} e out =
     let owes = solve-outside {s = sessionIn h t o g} (e .answer) (record { answer = refl }) out in
     record {
-      answer = ap told (owes .answer) ∙ told-mapped (λ (view : View). tt) (solveOf (sessionIn h t o g));
+      wanted = owes .wanted;
+      means = owes .means;
+      answer = ap told (owes .answer) ∙ told-mapped (λ (view : View). tt) (owes .wanted);
       state = owes .state;
     }
 
@@ -61,6 +66,7 @@ one-solved =
       solve =
           λ {h} {table} {octets} {messages} a b.
           let s = sessionIn h table octets messages in
-          let one = same-memory h h (after-same (solveOf s) s (a .state) (b .state)) in
-          (a .answer ∙ sym (b .answer), one .1, one .2);
+          let same = one-answer s (a .wanted) (b .wanted) (a .means) (b .means) in
+          let one = same-memory h h (after-same (b .wanted) s (subst (λ (x : Answer View). After x s _) same (a .state)) (b .state)) in
+          (a .answer ∙ ap told same ∙ sym (b .answer), one .1, one .2);
     }

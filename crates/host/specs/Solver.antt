@@ -4,10 +4,12 @@
 use Prim.Native.Nat.{ℕ}
 use mathlib.Core.Path.{_≡_}
 use mathlib.Core.List.{List}
+use Rattle.length.specs.Answers.{Answer}
+use Rattle.session.specs.View.{View}
 use Rattle.solve_code.specs.Outcome.{solvedOutcome}
 use Rattle.solve_code.specs.declared.Solved.{Solved}
 use Rattle.session_calls.specs.Receiver.{After}
-use Rattle.session_calls.specs.Solver.{solveOf}
+use Rattle.session_calls.specs.Solver.{SolvesAs}
 use Rattle.host_answers.specs.Answers.{told}
 use Rattle.host.specs.Receiver.{sessionIn}
 use Rattle.host_answers.specs.declared.answers.Answered.{Answered}
@@ -18,8 +20,10 @@ pub record SolvedTold (from : Solved) (r : Answered) : Type 0 where
 
 -- table and octets are the table and the packets before it, table₂ and octets₂ after it
 pub record SolveHosted (h : Head) (table octets messages table₂ octets₂ : List ℕ) (r : Answered) : Type 0 where
-  pub answer : r ≡ told (solveOf (sessionIn h table octets messages))
-  pub state : After (solveOf (sessionIn h table octets messages)) (sessionIn h table octets messages) (sessionIn h table₂ octets₂ messages)
+  pub wanted : Answer View
+  pub means : SolvesAs (sessionIn h table octets messages) wanted
+  pub answer : r ≡ told wanted
+  pub state : After wanted (sessionIn h table octets messages) (sessionIn h table₂ octets₂ messages)
 
 -- ---- two outcomes that the promise allows are equal (rule 28.14)
 pub record OneSolved : Type 0 where

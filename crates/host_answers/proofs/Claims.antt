@@ -1,6 +1,7 @@
 -- Two values that a promise allows are equal: from the promises. Assumes nothing.
 use mathlib.Core.Path.{sym, _∙_}
 use Rattle.host_answers.specs.Claims.{OneOutcome, Claims}
+use Rattle.host_answers.proofs.Cases.{cases}
 
 one-outcome : OneOutcome
 one-outcome =
@@ -13,4 +14,4 @@ one-outcome =
     }
 
 pub claims : Claims
-claims = record { oneOutcome = one-outcome }
+claims = record { oneOutcome = one-outcome; cases = cases }

@@ -1,4 +1,4 @@
--- The claims of this crate: two values that a promise allows are equal (rule 28.14). Statements only.
+-- The claims of this crate: two values that a promise allows are equal (rule 28.14), and the cases. Statements only.
 use Prim.Native.Nat.{ℕ}
 use mathlib.Core.Path.{_≡_}
 use mathlib.Core.Bool.{Bool}
@@ -10,6 +10,7 @@ use Rattle.sender.specs.declared.Settings.{Settings}
 use Rattle.host_answers.specs.Answers.{OfferedTold, ReleasedTold, WrittenTold}
 use Rattle.host_answers.specs.Joiner.{FrameTold}
 use Rattle.host_answers.specs.Settings.{SettingsTold}
+use Rattle.host_answers.specs.Cases.{Cases}
 use Rattle.host_answers.specs.declared.answers.Answered.{Answered}
 use Rattle.host_answers.specs.declared.answers.Number.{Number}
 use Rattle.host_answers.specs.declared.answers.Wrote.{Wrote}
@@ -25,3 +26,4 @@ pub record OneOutcome : Type 0 where
 
 pub record Claims : Type 0 where
   pub oneOutcome : OneOutcome
+  pub cases : Cases

@@ -11,6 +11,7 @@ use Rattle.image.proofs.Answers.{held-reads, read-image, read-only, ses
 use Rattle.image.proofs.Editions.{editions, reads02}
 use Rattle.image.proofs.Lent.{lent-back, struct-back}
 use Rattle.image.proofs.Cases.{cases}
+use Rattle.image.proofs.Fresh.{fresh-image}
 
 writes : ImageWrites
 unfolding imageToWrite
@@ -38,6 +39,7 @@ claims =
             only = λ version text why e. read-only version text why e;
           };
       editions = editions;
+      freshImage = fresh-image;
       writes = writes;
       cases = cases;
     }

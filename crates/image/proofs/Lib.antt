@@ -1,3 +1,4 @@
+pub mod Cases
 mod Plain
 mod Numbers
 mod Text
@@ -9,6 +10,6 @@ mod Sizes
 mod Answers
 mod Editions
 mod Lent
+mod Fresh
 pub mod Laws
-pub mod Cases
 pub mod Claims

@@ -13,17 +13,18 @@ use Rattle.length.specs.declared.Refusal.{Refusal}
 use Rattle.datagram.specs.Sizes.{packetLimit}
 use Rattle.session.specs.Cells.{cellAt, keptNumbers, keptAhead}
 use Rattle.session.specs.Held.{heldAt}
-use Rattle.session.specs.View.{View}
+use Rattle.session.specs.View.{View, freshView}
 use Rattle.session.specs.Ranges.{inRanges, Sound}
 use Rattle.session_held.specs.Table.{Lent, lentBy, viewIn, viewOf}
 use Rattle.session_held.specs.Laid.{InRanges}
 use Rattle.session_held.specs.declared.Session.{Session}
+use Rattle.line.specs.Text.{characters}
 use Rattle.image.specs.Parts.{readWhole}
 use Rattle.image.specs.Layout.{ImageVersion, oldLimit, imageVersion01, imageVersion02, linesOf, image}
 use Rattle.image.specs.Octets.{imageLines}
 use Rattle.image.specs.Image.{imageText, readImage, namesEdition, editionNamed, readText, imageRows, imageToWrite, ImageHolds}
 use Rattle.image.specs.Image.{OfOctets, LentOctets, imageSize, imageLimit}
-use Rattle.image.specs.Cases.{Cases}
+use Rattle.image.specs.Cases.{freshFrom, Cases}
 
 -- ---- rule 20.11: reading an image gives a session equal to the one that was written
 pub record ReadBack : Type 0 where
@@ -103,6 +104,15 @@ pub record ImageVersions : Type 0 where
   pub other : (text : List ℕ) → (readText text ≡ refuse otherEdition)
       ↔ ((namesEdition text ≡ true) × ((editionNamed text ≡ imageVersion01 .octet) → ⊥) × ((editionNamed text ≡ imageVersion02 .octet) → ⊥))
 
+-- ---- the claims above say something: a fresh session meets all that they require, and its image reads back in both versions (rules 20.9
+-- and 20.11)
+pub record FreshImage : Type 0 where
+  pub sound : Sound freshView
+  pub octets : OfOctets freshView
+  pub short : Short 160 freshView
+  pub reads : readText (freshFrom (characters "02000000000000000000000000000000000000\n")) ≡ done freshView
+  pub reads-01 : readText (freshFrom (characters "01000000000000000000000000000000000000\n")) ≡ done freshView
+
 -- ---- rule 20.19: the writer refuses 17, then 13
 abbrev pub ImageWrites : Type 0
 ImageWrites = (version : ImageVersion) (session : Lent) (old : List ℕ)
@@ -115,5 +125,6 @@ pub record Claims : Type 0 where
   pub sized : ImageSized
   pub reads : ImageReads
   pub editions : ImageVersions
+  pub freshImage : FreshImage
   pub writes : ImageWrites
   pub cases : Cases

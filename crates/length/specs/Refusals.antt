@@ -1,5 +1,5 @@
 -- The names that the definitions use for the numbers of refusals (rules 2.1 to 2.23), and how a refusal is made and passed up (rules 2.27,
--- 2.30 and 2.31). There is no refusal 19 (rule 2.19). Definitions only.
+-- 2.30 and 2.31). Refusal 11 is retired (rule 2.11), and there is no refusal 19 (rule 2.19). Definitions only.
 use Prim.Native.Nat.{ℕ, _+_}
 use Rattle.length.specs.declared.Refusal.{Refusal}
 
@@ -40,10 +40,6 @@ late = 9
 -- release without leave to skip: the number at the base is unknown (rule 2.10)
 abbrev pub baseUnknown : ℕ
 baseUnknown = 10
-
--- retired: no call gives it, and its number is not used again (rule 2.11)
-abbrev pub baseKnown : ℕ
-baseKnown = 11
 
 -- an extension, a value or a field type is not assigned in the named edition (rule 2.12)
 abbrev pub notAssigned : ℕ

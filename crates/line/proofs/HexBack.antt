@@ -50,7 +50,7 @@ module _ (octets : List ℕ) (small : Octets octets) where
   low : (k : ℕ) → k < length octets → digitOf (getD (hexOf octets) (2 * k + 1) 0) ≡ getD octets k 0 % 16
   low k inside = ap digitOf (hexOf-low octets k inside) ∙ digit-back (getD octets k 0 % 16) (omega arith)
 
-  digit-at : (j : ℕ) → j < length (hexOf octets) → digitOf (getD (hexOf octets) j 0) < 16
+  pub digit-at : (j : ℕ) → j < length (hexOf octets) → digitOf (getD (hexOf octets) j 0) < 16
   digit-at j inside =
       let k : j / 2 < length octets = omega (arith, length-hexOf octets) in
       ⊎-elim

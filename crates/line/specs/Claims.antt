@@ -1,12 +1,12 @@
 -- The claims of this crate. Statements alone.
-use Prim.Native.Nat.{ℕ, _≤_, _<_}
+use Prim.Native.Nat.{ℕ, _+_, _*_, _≤_, _<_}
 use mathlib.Core.Path.{_≡_}
 use mathlib.Core.Bool.{false}
 use mathlib.Core.List.{List, [], _∷_, _++_}
 use mathlib.Core.Logic.{_⊎_}
-use lib.ListN.{length, take}
-use Rattle.length.specs.Refusals.{wrongSettings, baseUnknown, allPassed}
-use Rattle.length.specs.Answers.{done, refuse}
+use lib.ListN.{length, getD, take, drop}
+use Rattle.length.specs.Refusals.{baseUnknown, allPassed}
+use Rattle.length.specs.Answers.{done, refuse, mapped}
 use Rattle.length.specs.Promise.{Puts}
 use Rattle.length.specs.Claims.{Octets}
 use Rattle.length.specs.declared.Written.{Written}
@@ -17,26 +17,13 @@ use Rattle.session_held.specs.Laid.{InRanges}
 use Rattle.session_held.specs.Promise.{Fresh}
 use Rattle.session_held.specs.declared.Session.{Session}
 use Rattle.line.specs.Hex.{lineOctets, hexOf}
-use Rattle.line.specs.Lines.{Made, program, releases}
+use Rattle.line.specs.Lines.{Made, resultLine, linesFrom, program, releases}
 use Rattle.line.specs.Feed.{Going, atStart, fed, atEnd, goingIn, PartWay}
 use Rattle.line.specs.Promise.{Does, stepLimit}
 use Rattle.line.specs.FeedPromise.{Feedable, Feeds, Ends}
-use Rattle.line.specs.Text.{characters}
+pub use Rattle.line.specs.Cases.{WholeCase, Cases}
 use Rattle.line.specs.declared.steps.Stepped.{Stepped}
 use Rattle.line.specs.declared.feed.Fed.{Fed}
-
--- rule 26.17: the whole case
-abbrev pub WholeCase : Type 0
-WholeCase =
-    program (characters "000001060000\n00020100000106C00180000055\n\n00020100000106C00180000055\n")
-    ≡ characters "00000006\n010001C00180000055\n00000200\n030003\nFF090000\n"
-
--- rules 18.7 and 18.10: digits of both cases are read; a carriage return and a space are no digits
-pub record Cases : Type 0 where
-  pub upper : lineOctets (characters "0123456789ABCDEF") ≡ done (0x01 ∷ 0x23 ∷ 0x45 ∷ 0x67 ∷ 0x89 ∷ 0xAB ∷ 0xCD ∷ 0xEF ∷ [])
-  pub lower : lineOctets (characters "abcdef") ≡ done (0xAB ∷ 0xCD ∷ 0xEF ∷ [])
-  pub return : lineOctets (characters "00\r") ≡ refuse wrongSettings
-  pub blanks : lineOctets (characters "0 06") ≡ refuse wrongSettings
 
 -- rules 18.1 and 18.3: after the releases the next one is refused with 10 or 16, so the limit on their number cuts nothing off
 abbrev pub ReleasesAll : Type 0
@@ -47,6 +34,26 @@ ReleasesAll = (session : Lent) → InRanges session
 -- a line that was written reads back to the same octets (rule 18.16)
 abbrev pub WrittenReads : Type 0
 WrittenReads = (octets : List ℕ) → Octets octets → length octets ≤ datagramLimit → lineOctets (hexOf octets) ≡ done octets
+
+-- what a result line says
+pub record Result : Type 0 where
+  pub kind : ℕ
+  pub number : ℕ
+  pub octets : List ℕ
+
+-- by the octets of the line: the kind, the number in two octets, high first, the packet's octets (rule 18.5)
+abbrev pub resultIn : List ℕ → Result
+resultIn octets = record { kind = getD octets 0 0; number = getD octets 1 0 * 256 + getD octets 2 0; octets = drop 3 octets }
+
+-- a result line is one line, which reads back to kind, number and octets (rules 18.5, 18.9 and 18.16)
+pub record ResultReads (kind number : ℕ) (octets : List ℕ) : Type 0 where
+  pub line : List ℕ
+  pub one : linesFrom [] (resultLine kind number octets) ≡ line ∷ []
+  pub reads : mapped resultIn (lineOctets line) ≡ done (record { kind = kind; number = number; octets = octets })
+
+abbrev pub ResultsRead : Type 0
+ResultsRead = (kind number : ℕ) (octets : List ℕ) → kind < 256 → number < 65536 → Octets octets → length octets ≤ packetLimit
+    → ResultReads kind number octets
 
 -- rule 18.12: the input taken character by character writes what the program writes, however it is cut
 pub record CutAnyhow : Type 0 where
@@ -97,6 +104,7 @@ pub record Claims : Type 0 where
   pub cases : Cases
   pub releasesAll : ReleasesAll
   pub writtenReads : WrittenReads
+  pub resultsRead : ResultsRead
   pub cutAnyhow : CutAnyhow
   pub inTurn : InTurn
   pub oneOutcome : OneOutcome

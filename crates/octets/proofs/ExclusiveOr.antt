@@ -13,7 +13,7 @@ use native.Mathlib.Nat.{mod-lt}
 use native.Mathlib.Omega.{arith}
 use Rattle.octets.specs.Place.{tab}
 use Rattle.octets.specs.ExclusiveOr.{xorAt, exclusiveOr, longest}
-use Rattle.octets.proofs.Cases.{below-or-not}
+use Rattle.octets.proofs.Either.{below-or-not}
 use Rattle.octets.proofs.Place.{length-tab, tab-at, tab-ext, tab-getD, tab-same}
 
 -- ---- of two numbers

@@ -1,7 +1,7 @@
 -- The laws of this crate that others use; each is proved in the file that it is passed on from. Assumes nothing.
 
 -- ---- two cases that a proof goes by, and tests joined
-pub use Rattle.octets.proofs.Cases.{below-or-not, same-or-not, true-or-false, and-left, and-right, and-both, or-true}
+pub use Rattle.octets.proofs.Either.{below-or-not, same-or-not, true-or-false, and-left, and-right, and-both, or-true}
 -- ---- lists given by place, and tests over a range
 pub use Rattle.octets.proofs.Place.{length-tab, tab-at, tab-ext, tab-getD, tab-set, allBelow-more, allBelow-at, allBelow-of}
 pub use Rattle.octets.proofs.Place.{allBelow-ext, tab-among, among-tab, tab-snoc, tab-more, tab-shift, tab-same, map-tab, tab-take}

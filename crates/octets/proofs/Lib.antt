@@ -1,3 +1,4 @@
+pub mod Either
 pub mod Cases
 pub mod Place
 pub mod ExclusiveOr

@@ -11,7 +11,7 @@ use native.Mathlib.Nat.{not-suc-le-zero, le-of-suc-le-suc}
 use native.Mathlib.Numerals.{add-one}
 use native.Mathlib.Omega.{arith}
 use Rattle.octets.specs.Place.{tab, allBelow}
-use Rattle.octets.proofs.Cases.{same-or-not, and-left, and-right, and-both}
+use Rattle.octets.proofs.Either.{same-or-not, and-left, and-right, and-both}
 
 -- ---- tab
 pub length-tab : {A : Type 0} (n : ℕ) (f : ℕ → A) → length (tab n f) ≡ n

@@ -1,3 +1,4 @@
 pub mod Place
 pub mod ExclusiveOr
 pub mod Words
+pub mod Cases

@@ -9,8 +9,10 @@ use Rattle.packet.specs.Packet.{every, root, addition, enumerated, typeO
 use Rattle.packet.specs.Packet.{dataField, packet, readPacket}
 use Rattle.packet.specs.Packet as description
 use Rattle.packet.specs.Write.{contentsOf, packetOctets, total, oneEach, allAssigned, rightTypes, allRight, inSizes, packetToWrite}
+use Rattle.packet.specs.Promise.{paddedFields}
 use Rattle.packet.specs.Cases.{ReadCases, WriteCases}
 use Rattle.packet.specs.NewCases.{NewReadCases, NewWriteCases}
+use Rattle.packet.specs.TableCases.{EditionCases, ValueCases, TypeCases, AnswerCases, TableCases}
 
 pub read-cases : ReadCases
 unfolding readPacket description.wholePacket packet start typeOfMsg enumerated root addition dataField count field header fieldData size
@@ -35,9 +37,11 @@ read-cases =
       one-too-many = refl;
       bare-0 = refl;
       data-1 = refl;
+      data-256 = refl;
       length-cut = refl;
       data-over = refl;
       zero-after = refl;
+      eighth-octet = refl;
       one-after-zero = refl;
       true-zero = refl;
       empty = refl;
@@ -66,6 +70,7 @@ write-cases =
       type-over = refl;
       indicator-field = refl;
       whole-over = refl;
+      whole-at = refl;
       mended = refl;
     }
 
@@ -119,3 +124,77 @@ new-write-cases =
       v34rate-bare = refl;
       past-types = refl;
     }
+
+edition-cases : EditionCases
+unfolding readPacket description.wholePacket packet start typeOfMsg enumerated root addition dataField count field header fieldData size
+    reading.bit reading.bits reading.flag reading.align reading.octetwise reading.sequenceOf octetsFront twoFront every lengthAt
+    allowed lengthWithin packetToWrite packetOctets contentsOf spelt whole wide packed sequenceSpelt total oneEach allAssigned rightTypes allRight inSizes unless
+    lengthOctets
+edition-cases =
+    record {
+      octet-0 = refl;
+      octet-1 = refl;
+      written-0 = refl;
+      written-1 = refl;
+      octet-2 = refl;
+      octet-255 = refl;
+      written-2 = refl;
+    }
+
+value-cases : ValueCases
+unfolding readPacket description.wholePacket packet start typeOfMsg enumerated root addition dataField count field header fieldData size
+    reading.bit reading.bits reading.flag reading.align reading.octetwise reading.sequenceOf octetsFront twoFront every lengthAt
+    allowed lengthWithin packetToWrite packetOctets contentsOf spelt whole wide packed sequenceSpelt total oneEach allAssigned rightTypes allRight inSizes unless
+    lengthOctets
+value-cases =
+    record {
+      old-indicators = refl;
+      old-kinds = refl;
+      past-old-kinds = refl;
+      new-indicators = refl;
+      new-kinds = refl;
+      past-new-kinds = refl;
+      added-indicators = refl;
+      added-kinds = refl;
+      past-added = refl;
+      added-old = refl;
+      sheet-new = refl;
+      old-indicators-written = refl;
+      old-kinds-written = refl;
+      past-old = refl;
+      new-indicators-written = refl;
+      new-kinds-written = refl;
+      past-new = refl;
+    }
+
+type-cases : TypeCases
+unfolding readPacket description.wholePacket packet start typeOfMsg enumerated root addition dataField count field header fieldData size
+    reading.bit reading.bits reading.flag reading.align reading.octetwise reading.sequenceOf octetsFront twoFront every lengthAt
+    allowed lengthWithin packetToWrite packetOctets contentsOf spelt whole wide packed sequenceSpelt total oneEach allAssigned rightTypes allRight inSizes unless
+    lengthOctets
+type-cases =
+    record {
+      rows = refl;
+      without-data = refl;
+      with-data = refl;
+      old-bare = refl;
+      new-bare = refl;
+      added-bare = refl;
+      old-data = refl;
+      new-data = refl;
+      added-data = refl;
+      old-bare-written = refl;
+      old-data-written = refl;
+      new-bare-written = refl;
+      new-data-written = refl;
+      cm-padding = refl;
+      v34rate-padding = refl;
+      cm-bare-first = refl;
+    }
+
+answer-cases : AnswerCases
+unfolding paddedFields addition reading.bit reading.bits reading.flag
+answer-cases = record { refused = refl; one-field = refl; told-back = refl; one-added = refl; past-one-added = refl }
+
+pub table-cases : TableCases
+table-cases = record { editionCases = edition-cases; valueCases = value-cases; typeCases = type-cases; answerCases = answer-cases }

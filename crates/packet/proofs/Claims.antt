@@ -7,7 +7,7 @@ use Rattle.packet.proofs.ReadBack.{packet-read-writes}
 use Rattle.packet.proofs.Follow.{parts-within, zeros-follow, zeros-alike}
 use Rattle.packet.proofs.Fitting.{sound98, sound02}
 use Rattle.packet.proofs.Alike.{plain-alike}
-use Rattle.packet.proofs.Cases.{read-cases, write-cases, new-read-cases, new-write-cases}
+use Rattle.packet.proofs.Cases.{read-cases, write-cases, new-read-cases, new-write-cases, table-cases}
 
 pub one-outcome : OneOutcome
 one-outcome =
@@ -30,4 +30,5 @@ claims =
       writeCases = write-cases;
       newReadCases = new-read-cases;
       newWriteCases = new-write-cases;
+      tableCases = table-cases;
     }

@@ -1,4 +1,4 @@
-mod Cases
+pub mod Cases
 mod Described
 mod Steady
 mod Inside

@@ -8,7 +8,7 @@ use Rattle.length.specs.Refusals.{endsEarly, badForm, outsideSizes, spareBit, l
 use Rattle.length.specs.Answers.{done, refuse, refuseAt}
 use Rattle.datagram.specs.Sizes.{packetLimit}
 use Rattle.packet.specs.Edition.{edition98}
-use Rattle.packet.specs.Packet.{fieldsLimit, typesLimit, PacketAnswer, readPacket}
+use Rattle.packet.specs.Packet.{PacketAnswer, readPacket}
 use Rattle.packet.specs.Write.{packetToWrite}
 use Rattle.packet.specs.declared.types.PacketKind.the-variants.{Indicator, Data}
 use Rattle.packet.specs.declared.types.Ending.the-variants.{Whole, Repaired}
@@ -40,7 +40,7 @@ pub record ReadCases : Type 0 where
   -- 12 for the value, then 5 for the padding, then 14 (rule 6.14)
   pub value-first : readPacket edition98 Whole (0xD3 ∷ []) ≡ refuse notAssigned
   pub bit-first : readPacket edition98 Whole (0x81 ∷ []) ≡ refuse spareBit
-  -- a count that is not 1 to 16 is 4 (rule 6.4), and its form is the length rule's (rules 3.4 and 26.22)
+  -- a count that is not 1 to 16 is 4 (rules 1.8 and 6.4), and its form is the length rule's (rules 3.4 and 26.22)
   pub count-0 : readPacket edition98 Whole (0xC0 ∷ 0x00 ∷ []) ≡ refuseAt 1 outsideSizes
   pub count-over : readPacket edition98 Whole (0xC0 ∷ 0x11 ∷ []) ≡ refuseAt 1 outsideSizes
   pub count-form : readPacket edition98 Whole (0xC0 ∷ 0x80 ∷ 0x01 ∷ []) ≡ refuseAt 1 badForm
@@ -50,7 +50,7 @@ pub record ReadCases : Type 0 where
   -- a bit set in padding is 5 in a repaired packet too (rules 5.4 and 26.24), and before a missing length (rule 5.5)
   pub bit-repaired : readPacket edition98 Repaired (0xC0 ∷ 0x01 ∷ 0x11 ∷ []) ≡ refuseAt 2 spareBit
   pub bit-before-length : readPacket edition98 Whole (0xC0 ∷ 0x01 ∷ 0x81 ∷ []) ≡ refuseAt 2 spareBit
-  -- after a field without data the next header begins in the next bit (rules 5.6 and 26.16), not in the next octet (rule 26.34)
+  -- after a field without data the next header begins in the next bit (rules 5.2, 5.6 and 26.16), not in the next octet (rule 26.34)
   pub mended : readPacket edition98 Whole (0xC0 ∷ 0x04 ∷ 0x80 ∷ 0x00 ∷ 0x00 ∷ 0xAA ∷ 0x28 ∷ 0x00 ∷ 0x00 ∷ 0xBB ∷ 0x40 ∷ [])
       ≡ done mendedPacket
   pub on-its-own : readPacket edition98 Whole (0xC0 ∷ 0x04 ∷ 0x80 ∷ 0x00 ∷ 0x00 ∷ 0xAA ∷ 0x20 ∷ 0x80 ∷ 0x00 ∷ 0x00 ∷ 0xBB ∷ 0x40 ∷ [])
@@ -61,15 +61,18 @@ pub record ReadCases : Type 0 where
   -- two octets with the length minus one, then the data (rule 6.8): no form to refuse, but 1, then 4 (rules 6.9 and 26.23)
   pub data-1 : readPacket edition98 Whole (0xC0 ∷ 0x01 ∷ 0x80 ∷ 0x00 ∷ 0x00 ∷ 0x55 ∷ [])
       ≡ done (record { kind = Data; value = 0; fields = record { kind = 0; start = 5; size = 1 } ∷ [] })
+  -- a length of 256 is within the sizes, so its data is missing (rules 1.9 and 6.9)
+  pub data-256 : readPacket edition98 Whole (0xC0 ∷ 0x01 ∷ 0x80 ∷ 0x00 ∷ 0xFF ∷ []) ≡ refuseAt 5 endsEarly
   pub length-cut : readPacket edition98 Whole (0xC0 ∷ 0x01 ∷ 0x80 ∷ 0xFF ∷ []) ≡ refuseAt 3 endsEarly
   pub data-over : readPacket edition98 Whole (0xC0 ∷ 0x01 ∷ 0x80 ∷ packetLimit / 256 ∷ packetLimit % 256 ∷ []) ≡ refuseAt 3 outsideSizes
   -- a received packet ends at its last field (rule 6.11), and a repaired one may go on with zeros only (rules 6.12 and 26.25)
   pub zero-after : readPacket edition98 Whole (0x06 ∷ 0x00 ∷ []) ≡ refuseAt 1 leftOver
+  pub eighth-octet : readPacket edition98 Whole (0xC0 ∷ 0x01 ∷ 0x80 ∷ 0x00 ∷ 0x01 ∷ 0xAA ∷ 0xBB ∷ 0x00 ∷ []) ≡ refuseAt 7 leftOver
   pub one-after-zero : readPacket edition98 Repaired (0x06 ∷ 0x00 ∷ 0x01 ∷ []) ≡ refuseAt 1 leftOver
   -- a true last octet may be zero (rule 27.1): the data is 55 00, whatever zeros follow
   pub true-zero : readPacket edition98 Repaired (0xC0 ∷ 0x01 ∷ 0x80 ∷ 0x00 ∷ 0x01 ∷ 0x55 ∷ 0x00 ∷ [])
       ≡ done (record { kind = Data; value = 0; fields = record { kind = 0; start = 5; size = 2 } ∷ [] })
-  -- an empty packet is 1 (rule 2.1), and an indicator with data is 14 at place 0 (rules 6.17 and 26.5)
+  -- an empty packet is 1 (rule 2.1), and an indicator with data is 14 at place 0 (rules 6.6, 6.17 and 26.5)
   pub empty : readPacket edition98 Whole [] ≡ refuse endsEarly
   pub data-of-indicator : readPacket edition98 Whole (0x80 ∷ []) ≡ refuse wrongData
   -- a length, a header, padding and the octets that a length promises are one item each (rules 2.28 and 26.23)
@@ -84,20 +87,22 @@ pub record ReadCases : Type 0 where
 
 pub record WriteCases : Type 0 where
   -- 4 for over 16 types, then 15, 12, 14 and 4 for a length (rule 6.20): it is the types that are counted (rule 6.21)
-  pub types-over : packetToWrite edition98 Data 0 (replicate (fieldsLimit + 1) 1) (replicate (fieldsLimit + 1) 0) [] ≡ refuse outsideSizes
-  pub lengths-over : packetToWrite edition98 Data 0 (replicate fieldsLimit 1) (replicate (fieldsLimit + 1) 0) [] ≡ refuse wrongSettings
-  pub types-first : packetToWrite edition98 Data 0 (replicate (fieldsLimit + 2) 1) [] [] ≡ refuse outsideSizes
+  pub types-over : packetToWrite edition98 Data 0 (replicate 17 1) (replicate 17 0) [] ≡ refuse outsideSizes
+  pub lengths-over : packetToWrite edition98 Data 0 (replicate 16 1) (replicate 17 0) [] ≡ refuse wrongSettings
+  pub types-first : packetToWrite edition98 Data 0 (replicate 18 1) [] [] ≡ refuse outsideSizes
   pub settings-before-12 : packetToWrite edition98 Data 9 (0 ∷ []) [] [] ≡ refuse wrongSettings
   pub value-before-14 : packetToWrite edition98 Data 9 (0 ∷ []) (0 ∷ []) [] ≡ refuse notAssigned
   pub data-before-4 : packetToWrite edition98 Data 0 (1 ∷ []) ((packetLimit + 1) ∷ []) (replicate (packetLimit + 1) 0) ≡ refuse wrongData
   -- true sums: nothing wraps (rule 2.34)
   pub true-sum : packetToWrite edition98 Data 0 (0 ∷ 0 ∷ []) (65535 ∷ 1 ∷ []) [] ≡ refuse wrongSettings
   -- a type over 7 is 12 (rule 6.19)
-  pub type-over : packetToWrite edition98 Data 0 ((typesLimit edition98 + 1) ∷ []) (0 ∷ []) [] ≡ refuse notAssigned
+  pub type-over : packetToWrite edition98 Data 0 (8 ∷ []) (0 ∷ []) [] ≡ refuse notAssigned
   -- an indicator with fields is 14, with or without data (rule 6.22)
   pub indicator-field : packetToWrite edition98 Indicator 0 (1 ∷ []) (0 ∷ []) [] ≡ refuse wrongData
   -- each field is within the packet limit, and the whole is over it by one (rules 6.23 and 26.27)
   pub whole-over : packetToWrite edition98 Data 0 (0 ∷ []) ((packetLimit - 4) ∷ []) (replicate (packetLimit - 4) 0) ≡ refuse outsideSizes
+  pub whole-at : packetToWrite edition98 Data 0 (0 ∷ []) ((packetLimit - 5) ∷ []) (replicate (packetLimit - 5) 0x55)
+      ≡ done (oneField (packetLimit - 5))
   -- two frames in one packet, written (rule 26.16)
   pub mended : packetToWrite edition98 Data 0 (0 ∷ 2 ∷ 0 ∷ 4 ∷ []) (1 ∷ 0 ∷ 1 ∷ 0 ∷ []) (0xAA ∷ 0xBB ∷ [])
       ≡ done (0xC0 ∷ 0x04 ∷ 0x80 ∷ 0x00 ∷ 0x00 ∷ 0xAA ∷ 0x28 ∷ 0x00 ∷ 0x00 ∷ 0xBB ∷ 0x40 ∷ [])

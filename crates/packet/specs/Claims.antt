@@ -13,6 +13,7 @@ use Rattle.packet.specs.Write.{packetToWrite}
 use Rattle.packet.specs.Promise.{PacketTold}
 use Rattle.packet.specs.Cases.{ReadCases, WriteCases}
 use Rattle.packet.specs.NewCases.{NewReadCases, NewWriteCases}
+use Rattle.packet.specs.TableCases.{TableCases}
 use Rattle.packet.specs.declared.types.PacketKind.{PacketKind}
 use Rattle.packet.specs.declared.types.Ending.{Ending}
 use Rattle.packet.specs.declared.types.Ending.the-variants.{Whole, Repaired}
@@ -103,3 +104,4 @@ pub record Claims : Type 0 where
   pub writeCases : WriteCases
   pub newReadCases : NewReadCases
   pub newWriteCases : NewWriteCases
+  pub tableCases : TableCases

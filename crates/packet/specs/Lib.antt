@@ -4,4 +4,5 @@ pub mod Write
 pub mod Promise
 pub mod Cases
 pub mod NewCases
+pub mod TableCases
 pub mod Claims

@@ -1,6 +1,7 @@
 mod OneBit
 mod Taking
 mod ReadValues
+mod ByBits
 mod ReadSizes
 mod ReadData
 mod ReadField

@@ -1,29 +1,30 @@
 -- One law for each answer of the functions that take a field's data and its length, in the words of the code. Assumes nothing.
 use Prim.Native.Nat.{ℕ, _+_, _-_, _*_, _/_, _%_, _^_, _≤_, _<_}
 use mathlib.Core.Path.{_≡_, sym, ap, _∙_}
-use mathlib.Core.Bool.{cond}
 use mathlib.Core.List.{List}
-use lib.ListN.{length, getD, take, drop, length-drop}
-use lib.Seq.{getD-drop, length-take-le}
+use lib.ListN.{length, take, drop, length-drop}
+use lib.Seq.{length-take-le}
 use lib.Dec.{leb}
 use native.Mathlib.Omega.{arith}
 use borrow.Author.Tests.{lt-ltb, le-ltb, le-leb, lt-leb}
 use Rattle.length.specs.Refusals.{refusal, refusalAt, further, endsEarly, outsideSizes}
-use Rattle.length.specs.Promise.{Octet, RefusalPlaced}
+use Rattle.length.specs.Claims.{Octets}
+use Rattle.length.specs.Promise.{RefusalPlaced}
 use Rattle.length.specs.declared.Refusal.{Refusal}
 use Rattle.datagram.specs.Sizes.{packetLimit}
-use Rattle.format.specs.Reading.{Finding, found, stopped}
+use Rattle.format.specs.Reading.{Finding, found, stopped, andThen}
 use Rattle.format.specs.Reading as reading
 use Rattle.format.specs.Places.{Place}
-use Rattle.format.specs.Format.{twoFront, octetsFront}
+use Rattle.format.specs.Format.{octetsFront}
 use Rattle.packet.specs.Packet as description
-use Rattle.packet_pencil.specs.Bits.{EdgeTaken}
+use Rattle.packet_pencil.specs.Bits.{numberFound, BitsTaken, EdgeTaken}
 use Rattle.packet_pencil.specs.Items.{OctetTaken, SizeTaken, DataLength, PartTaken}
 use Rattle.packet_pencil.specs.declared.bits.Number.{Number}
 use Rattle.packet_pencil.specs.declared.bits.Number.the-variants as number
 use Rattle.packet_pencil.specs.declared.bits.Edge.{Edge}
 use Rattle.packet_pencil.specs.declared.bits.Edge.the-variants as edge
 use Rattle.packet_pencil.specs.declared.items.Part.the-variants as part
+use Rattle.packet_pencil.proofs.ByBits.{kept, two-bits}
 use Rattle.packet_pencil.proofs.ReadSizes.{octet-is}
 
 -- refused at the front of the octets from an octet on
@@ -38,45 +39,34 @@ module _ {s : List ℕ} {p : Place} {e : Edge} (told : EdgeTaken s p e) where
   unfolding description.size
   size-edge is = record { answer = λ i. rw (told .answer i, is); sized = tt }
 
-  module _ {q from : ℕ} (is : e ≡ edge.Found q) (octet : OctetTaken s q from) where
-    pub size-short : {r : Refusal} → length s - from < 2 → RefusalPlaced endsEarly (q / 8) r → SizeTaken s p (number.Refused r)
-    unfolding description.size reading.octetwise twoFront
-    size-short short made =
-        let few = lt-ltb (length (drop from s)) 2 (omega (arith, length-drop from s)) in
-        record { answer = λ i. rw (told .answer i, is, ← octet .rest, few) (front-at (q / 8) endsEarly made); sized = tt }
+  module _ {q : ℕ} {r : Number} (octets : Octets s) (is : e ≡ edge.Found q) (bits : BitsTaken 16 s (q / 8) q r) where
+    edge-on : q % 8 ≡ 0
+    edge-on = rw is at (told .on)
 
-    module _ {a b : ℕ} (two : 2 ≤ length s - from) (high : Octet (getD s from 0) a) (low : Octet (getD s (from + 1) 0) b) where
-      -- the two octets are there
-      size-two : twoFront (packetLimit - 1) (drop (q / 8) s)
-          ≡ cond (leb (a * 256 + b) (packetLimit - 1)) (found (a * 256 + b) 2) (stopped (refusal outsideSizes))
-      unfolding twoFront
-      size-two =
-          let some = le-ltb (length (drop from s)) 2 (omega (arith, length-drop from s)) in
-          let first : getD (drop from s) 0 0 ≡ a = getD-drop from s 0 0 ∙ ap (λ (k : ℕ). getD s k 0) (omega arith) ∙ sym (high .same) in
-          let second : getD (drop from s) 1 0 ≡ b = getD-drop from s 1 0 ∙ sym (low .same) in
-          rw (← octet .rest, some, first, second)
+    size-is : {n : Number} → r ≡ n → (i : ℕ)
+        → description.size .read s i p ≡ andThen (kept (q / 8) (λ v. leb v (packetLimit - 1)) (numberFound n)) (λ v z. found (v + 1) z)
+    unfolding description.size reading.octetwise
+    size-is same i =
+        rw (told .answer i, is)
+        (ap (λ (x : Finding ℕ). andThen x (λ v z. found (v + 1) z))
+        (two-bits s q octets edge-on (packetLimit - 1) ∙ ap (kept (q / 8) (λ v. leb v (packetLimit - 1))) (bits .answer ∙ ap numberFound same)))
 
-      pub size-over : {r : Refusal} → packetLimit < a * 256 + b + 1 → RefusalPlaced outsideSizes (q / 8) r
-          → SizeTaken s p (number.Refused r)
-      unfolding description.size reading.octetwise
+    pub size-refused : {x : Refusal} → r ≡ number.Refused x → SizeTaken s p (number.Refused x)
+    size-refused why = record { answer = size-is why; sized = tt }
+
+    module _ {v z : ℕ} (value : r ≡ number.Found v z) where
+      pub size-over : {x : Refusal} → packetLimit ≤ v → RefusalPlaced outsideSizes (q / 8) x → SizeTaken s p (number.Refused x)
       size-over over made =
-          let large = lt-leb (a * 256 + b) (packetLimit - 1) (omega arith) in
-          record { answer = λ i. rw (told .answer i, is, size-two, large) (front-at (q / 8) outsideSizes made); sized = tt }
+          let large = lt-leb v (packetLimit - 1) (omega arith) in
+          record { answer = λ i. size-is value i ∙ rw (large, made .answer); sized = tt }
 
-      pub size-found : a * 256 + b + 1 ≤ packetLimit → SizeTaken s p (number.Found (a * 256 + b + 1) (q + 16))
-      unfolding description.size reading.octetwise
+      pub size-found : v < packetLimit → SizeTaken s p (number.Found (v + 1) z)
       size-found few =
-          let next : 8 * 2 + q ≡ q + 16 = omega arith in
-          let on : q % 8 ≡ 0 = rw is at (told .on) in
+          let past : z ≡ q + 16 = rw value at (bits .past) in
           record {
-            answer = λ i. rw (told .answer i, is, size-two, le-leb (a * 256 + b) (packetLimit - 1) (omega arith), next);
-            sized = record { some = omega arith; few = few; on = omega arith };
+            answer = λ i. size-is value i ∙ rw (le-leb v (packetLimit - 1) (omega arith));
+            sized = record { some = omega arith; few = omega arith; on = omega (arith, past, edge-on) };
           }
-
-      pub size-fits : length s ≤ packetLimit → q + 16 < 2 ^ 64
-      size-fits few = omega (arith, octet-is octet (omega arith), few)
-
-pub ruleset sizes = (size-edge, size-short, size-over, size-found, size-fits)
 
 -- ---- the data
 -- at an octet edge no bits are left before it

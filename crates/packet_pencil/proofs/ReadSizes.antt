@@ -1,30 +1,33 @@
--- One law for each answer of the functions that take a count, a length or data in whole octets, in the words of the code. Assumes nothing.
-use Prim.Native.Nat.{ℕ, _+_, _-_, _*_, _/_, _^_, _≤_, _<_}
+-- One law for each answer of the functions that take a length by the length rule, a count, or the octet at a place, in the words of the
+-- code. Assumes nothing.
+use Prim.Native.Nat.{ℕ, _+_, _-_, _*_, _/_, _%_, _≤_, _<_}
 use mathlib.Core.Path.{_≡_, refl, sym, ap, _∙_}
+use mathlib.Core.Bool.{Bool, true, false}
 use mathlib.Core.List.{List}
-use lib.ListN.{length, take, drop, length-drop, drop-of-length-le}
+use lib.ListN.{length, drop, length-drop, drop-of-length-le}
 use native.Mathlib.Omega.{arith}
-use Rattle.length.specs.Refusals.{further}
-use Rattle.length.specs.Answers.{Answer, done, refused, LengthAnswer, lengthOutcome}
-use Rattle.length.specs.Length.{lengthWithin}
-use Rattle.length.specs.Promise.{WithinRead}
+use borrow.Author.Tests.{le-leb, lt-leb}
+use Rattle.length.specs.Refusals.{badForm, outsideSizes}
+use Rattle.length.specs.Answers.{Answer, done, refused, LengthAnswer}
+use Rattle.length.specs.Length.{within, lengthWithin}
+use Rattle.length.specs.Claims.{Octets}
+use Rattle.length.specs.Promise.{RefusalPlaced}
 use Rattle.length.specs.declared.Refusal.{Refusal}
-use Rattle.length.specs.declared.Length.{Length}
-use Rattle.length.specs.declared.Length.the-variants as length
-use Rattle.length.proofs.Laws.{LengthInside, within-done, within-front}
-use Rattle.datagram.specs.Sizes.{packetLimit}
 use Rattle.format.specs.Reading.{Finding, found, stopped, andThen, foundFrom}
 use Rattle.format.specs.Reading as reading
 use Rattle.format.specs.Places.{Place}
 use Rattle.format.specs.Format.{lengthFound}
 use Rattle.packet.specs.Packet.{fieldsLeast, fieldsLimit}
 use Rattle.packet.specs.Packet as description
-use Rattle.packet_laws.proofs.Laws.{rest, rest-is}
-use Rattle.packet_pencil.specs.Bits.{EdgeTaken}
-use Rattle.packet_pencil.specs.Items.{OctetTaken, CountTaken}
+use Rattle.packet_pencil.specs.Bits.{numberFound, BitsTaken, FlagTaken, EdgeTaken}
+use Rattle.packet_pencil.specs.Items.{OctetTaken, longBits, lengthBits, LongTaken, LengthTaken, CountTaken}
+use Rattle.packet_pencil.specs.declared.bits.Number.{Number}
 use Rattle.packet_pencil.specs.declared.bits.Number.the-variants as number
+use Rattle.packet_pencil.specs.declared.bits.Marked.{Marked}
+use Rattle.packet_pencil.specs.declared.bits.Marked.the-variants as flag
 use Rattle.packet_pencil.specs.declared.bits.Edge.{Edge}
 use Rattle.packet_pencil.specs.declared.bits.Edge.the-variants as edge
+use Rattle.packet_pencil.proofs.ByBits.{lengthFrom, length-bits, kept, within-from}
 
 -- ---- the octet at a place
 module _ {s : List ℕ} {p : Place} where
@@ -44,12 +47,48 @@ module _ {s : List ℕ} {p : Place} where
 
 pub ruleset octets = (octet-past, octet-here)
 
--- ---- the count of fields
--- a length that was read from an octet edge on
-abbrev lengthFrom : Place → Answer LengthAnswer → Finding ℕ
-lengthFrom q (done l) = found (l .value) (8 * l .size + q)
-lengthFrom q (refused r) = stopped (further (q / 8) r)
+-- ---- a length by the length rule
+module _ {s : List ℕ} {i : ℕ} {p : Place} {m : Marked} (told : FlagTaken s i p m) where
+  pub long-flag : {x : Refusal} → m ≡ flag.Refused x → LongTaken s i p (number.Refused x)
+  unfolding longBits
+  long-flag is = record { answer = rw (told .answer, is) }
 
+  pub length-flag : {x : Refusal} → m ≡ flag.Refused x → LengthTaken s i p (number.Refused x)
+  unfolding lengthBits
+  length-flag is = record { answer = rw (told .answer, is) }
+
+  module _ {b : Bool} {q : ℕ} (is : m ≡ flag.Found b q) where
+    pub long-longer : {x : Refusal} → b ≡ true → RefusalPlaced badForm i x → LongTaken s i p (number.Refused x)
+    unfolding longBits
+    long-longer set made = record { answer = rw (told .answer, is, set, made .answer) }
+
+    pub length-long : {r : Number} → b ≡ true → LongTaken s i q r → LengthTaken s i p r
+    unfolding lengthBits
+    length-long set long = record { answer = rw (told .answer, is, set) (long .answer) }
+
+    pub length-short : {r : Number} → b ≡ false → BitsTaken 7 s i q r → LengthTaken s i p r
+    unfolding lengthBits
+    length-short clear bits = record { answer = rw (told .answer, is, clear) (bits .answer) }
+
+    module _ {n : Number} (clear : b ≡ false) (bits : BitsTaken 14 s i q n) where
+      pub long-bits : {x : Refusal} → n ≡ number.Refused x → LongTaken s i p (number.Refused x)
+      unfolding longBits
+      long-bits why = record { answer = rw (told .answer, is, clear, bits .answer, why) }
+
+      pub long-low : {v z : ℕ} {x : Refusal} → n ≡ number.Found v z → v < 128 → RefusalPlaced badForm i x → LongTaken s i p (number.Refused x)
+      unfolding longBits
+      long-low {v} value few made =
+          record { answer = rw (told .answer, is, clear, bits .answer, value, lt-leb 128 v few, made .answer) }
+
+      pub long-found : {v z : ℕ} → n ≡ number.Found v z → 128 ≤ v → LongTaken s i p (number.Found v z)
+      unfolding longBits
+      long-found {v} value many = record { answer = rw (told .answer, is, clear, bits .answer, value, le-leb 128 v many) }
+
+pub ruleset longs = (long-flag, long-longer, long-bits, long-low, long-found)
+
+pub ruleset lengths = (length-flag, length-long, length-short)
+
+-- ---- the count of fields
 counted : (q : ℕ) (x : Answer LengthAnswer)
     → andThen (foundFrom (q / 8) (lengthFound x)) (λ a n. found a (8 * n + q)) ≡ lengthFrom q x
 counted q (done l) = refl
@@ -60,54 +99,40 @@ module _ {s : List ℕ} {p : Place} {e : Edge} (told : EdgeTaken s p e) where
   unfolding description.count
   count-edge is = record { answer = λ i. rw (told .answer i, is); small = tt }
 
-  module _ {q from : ℕ} {r : Length} (is : e ≡ edge.Found q) (octet : OctetTaken s q from)
-      (read : WithinRead fieldsLeast fieldsLimit (rest from s) r) where
-    count-is : (i : ℕ) → description.count .read s i p ≡ lengthFrom q (lengthOutcome r)
+  module _ {q : ℕ} {r : Number} (octets : Octets s) (is : e ≡ edge.Found q) (read : LengthTaken s (q / 8) q r) where
+    count-is : (i : ℕ) → description.count .read s i p ≡ kept (q / 8) (within fieldsLeast fieldsLimit) (numberFound r)
     unfolding description.count reading.octetwise
     count-is i =
-        let same : drop (q / 8) s ≡ rest from s = sym (octet .rest) ∙ sym (rest-is from s) in
+        let on : q % 8 ≡ 0 = rw is at (told .on) in
         rw (told .answer i, is)
-        (counted q (lengthWithin fieldsLeast fieldsLimit (drop (q / 8) s))
-        ∙ ap (λ (l : List ℕ). lengthFrom q (lengthWithin fieldsLeast fieldsLimit l)) same ∙ ap (lengthFrom q) (sym (read .answer)))
+        (counted q (lengthWithin fieldsLeast fieldsLimit (drop (q / 8) s)) ∙ within-from fieldsLeast fieldsLimit q (drop (q / 8) s)
+        ∙ ap (kept (q / 8) (within fieldsLeast fieldsLimit)) (sym (length-bits s q octets on) ∙ read .answer))
 
-    module _ {x : Refusal} (why : r ≡ length.Refused x) where
-      -- it begins at the front, so that its place fits
-      pub count-place : q < 2 ^ 64 → q / 8 + x .place < 2 ^ 64
-      count-place fits =
-          let front = within-front fieldsLeast fieldsLimit (rest from s) .front x (sym (read .answer) ∙ ap lengthOutcome why) in
-          omega arith
+    pub count-refused : {x : Refusal} → r ≡ number.Refused x → CountTaken s p (number.Refused x)
+    count-refused why =
+        record {
+          answer = λ i. count-is i ∙ ap (λ (n : Number). kept (q / 8) (within fieldsLeast fieldsLimit) (numberFound n)) why;
+          small = tt;
+        }
 
-      pub count-refused : {y : Refusal} → y ≡ further (q / 8) x → CountTaken s p (number.Refused y)
-      count-refused on =
-          record {
-            answer =
-                λ i.
-                count-is i ∙ ap (λ (l : Length). lengthFrom q (lengthOutcome l)) why ∙ ap (λ (z : Refusal). stopped z) (sym on);
-            small = tt;
-          }
+    module _ {v z : ℕ} (value : r ≡ number.Found v z) where
+      count-of : (i : ℕ) → description.count .read s i p ≡ kept (q / 8) (within fieldsLeast fieldsLimit) (found v z)
+      count-of i = count-is i ∙ ap (λ (n : Number). kept (q / 8) (within fieldsLeast fieldsLimit) (numberFound n)) value
 
-    module _ {n k : ℕ} (value : r ≡ length.Value n k) where
-      count-inside : LengthInside fieldsLeast fieldsLimit (rest from s) (record { value = n; size = k })
-      count-inside = within-done fieldsLeast fieldsLimit (rest from s) _ (sym (read .answer) ∙ ap lengthOutcome value)
+      pub count-low : {x : Refusal} → v < fieldsLeast → RefusalPlaced outsideSizes (q / 8) x → CountTaken s p (number.Refused x)
+      count-low few made = record { answer = λ i. count-of i ∙ rw (lt-leb fieldsLeast v few, made .answer); small = tt }
 
-      pub count-found : CountTaken s p (number.Found n (q + 8 * k))
-      count-found =
-          let next : 8 * k + q ≡ q + 8 * k = omega arith in
-          record {
-            answer =
-                λ i.
-                count-is i ∙ ap (λ (l : Length). lengthFrom q (lengthOutcome l)) value ∙ ap (λ (z : ℕ). found n z) next;
-            small = omega (arith, count-inside .high);
-          }
+      module _ (some : fieldsLeast ≤ v) where
+        pub count-high : {x : Refusal} → fieldsLimit < v → RefusalPlaced outsideSizes (q / 8) x → CountTaken s p (number.Refused x)
+        count-high over made =
+            record {
+              answer = λ i. count-of i ∙ rw (le-leb fieldsLeast v some, lt-leb v fieldsLimit over, made .answer);
+              small = tt;
+            }
 
-      -- it takes an octet or two of those that are there, so that the sums fit
-      pub count-size : 8 * k < 2 ^ 64
-      count-size = omega (arith, count-inside .sizes .few)
-
-      pub count-fits : length s ≤ packetLimit → q + 8 * k < 2 ^ 64
-      count-fits few =
-          let left : length (rest from s) ≡ length s - from = ap length (rest-is from s) ∙ length-drop from s in
-          let some : from < length s = omega (arith, count-inside .sizes .some, count-inside .sizes .inside, left) in
-          omega (arith, octet-is octet some, count-inside .sizes .few, some, few)
-
-pub ruleset counts = (count-edge, count-place, count-refused, count-found, count-size, count-fits)
+        pub count-found : v ≤ fieldsLimit → CountTaken s p (number.Found v z)
+        count-found few =
+            record {
+              answer = λ i. count-of i ∙ rw (le-leb fieldsLeast v some, le-leb v fieldsLimit few);
+              small = omega arith;
+            }

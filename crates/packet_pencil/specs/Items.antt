@@ -1,11 +1,13 @@
 -- What the readers of Annex A's small productions owe: what the description finds (rules 6.2, 6.4, 6.8, 7.5 and 8.1). Definitions only.
 use Prim.Native.Nat.{ℕ, _+_, _/_, _%_, _≤_, _<_}
 use mathlib.Core.Path.{_≡_}
+use mathlib.Core.Bool.{not, cond}
 use mathlib.Core.List.{List}
 use lib.ListN.{length, drop}
-use lib.Dec.{ltb}
-use Rattle.length.specs.Refusals.{notAssigned}
-use Rattle.format.specs.Reading.{Finding, found, stopped}
+use lib.Dec.{leb, ltb}
+use Rattle.length.specs.Refusals.{badForm, notAssigned}
+use Rattle.format.specs.Reading.{Finding, found, stopped, Reader, _>>=_, give, check}
+use Rattle.format.specs.Reading as reading
 use Rattle.format.specs.Places.{Place}
 use Rattle.format.specs.Format.{Format, bits, guarded}
 use Rattle.datagram.specs.Sizes.{packetLimit}
@@ -52,6 +54,27 @@ pub record ValueTaken (e : Enumerated) (octets : List ℕ) (i : ℕ) (p : Place)
 pub record OctetTaken (octets : List ℕ) (p : Place) (r : ℕ) : Type 0 where
   pub inside : r ≤ length octets
   pub rest : drop r octets ≡ drop (p / 8) octets
+
+-- a length or count by the length rule, bit by bit: a 0 bit and seven bits, or a 1 bit, a 0 bit and fourteen bits for 128 or more; another
+-- form is 3 (rules 3.1 to 3.5)
+unfoldable pub longBits : Reader ℕ
+longBits = do
+  longer ← reading.flag
+  _ ← check badForm (not longer)
+  n ← reading.bits 14
+  _ ← check badForm (leb 128 n)
+  give n
+
+unfoldable pub lengthBits : Reader ℕ
+lengthBits = do
+  long ← reading.flag
+  cond long longBits (reading.bits 7)
+
+pub record LongTaken (octets : List ℕ) (i : ℕ) (p : Place) (r : Number) : Type 0 where
+  pub answer : longBits octets i p ≡ numberFound r
+
+pub record LengthTaken (octets : List ℕ) (i : ℕ) (p : Place) (r : Number) : Type 0 where
+  pub answer : lengthBits octets i p ≡ numberFound r
 
 -- a count of fields, at most as many as a packet may have (rule 6.4)
 pub record CountTaken (octets : List ℕ) (p : Place) (r : Number) : Type 0 where

@@ -1,5 +1,5 @@
 -- What the readers of a packet's start owe: what the description finds there (rules 6.1, 6.2 and 8.1). What `read` owes is the packet
--- reader's own promise, `PacketTold`, and in one edition its `NamedTold` (rule 8.2). Definitions only.
+-- reader's own promise, `ReadBy`, and in one edition its `NamedTold` (rule 8.2). Definitions only.
 use Prim.Native.Nat.{ℕ}
 use mathlib.Core.Path.{_≡_}
 use mathlib.Core.Bool.{Bool, cond}

@@ -6,9 +6,7 @@ use crate::bits::align;
 use crate::bits::bits;
 use crate::bits::flag;
 use datagram::Packet;
-use length::Length;
 use length::Refusal;
-use length::wide;
 use packet::Enumerated;
 use packet::Field;
 use packet::Named;
@@ -19,10 +17,21 @@ ghost use Rattle.datagram.specs.Sizes.{packetLimit};
 ghost use Rattle.packet.specs.Edition.{editionOf};
 ghost use Rattle.packet_laws.specs.Octets.{Narrow};
 ghost use Rattle.packet_pencil.specs.Items.{RootTaken, AddedTaken, AdditionTaken, ValueTaken};
-ghost use Rattle.packet_pencil.specs.Items.{OctetTaken, CountTaken, SizeTaken, PartTaken};
+ghost use Rattle.packet_pencil.specs.Items.{OctetTaken, LongTaken, LengthTaken, CountTaken, SizeTaken, PartTaken};
 
 // How many bits an added value takes, behind the bit for extension and a bit that is 0 (rule 7.5).
 const ADDED_WIDTH: usize = 6;
+
+// How many bits a length by the length rule has behind its first bits, in one octet and in two, and the least that has two (rules 3.1, 3.2
+// and 3.4).
+const SHORT_WIDTH: usize = 7;
+
+const LONG_WIDTH: usize = 14;
+
+const LONG_LEAST: usize = 128;
+
+// How many bits the length of a field's data has (rule 6.8).
+const SIZE_WIDTH: usize = 16;
 
 // Where a field's data begins, how many octets it has, and the place after it.
 pub enum Part {
@@ -143,6 +152,46 @@ pub fn octet(octets: &[u8], at: usize) -> usize
     whole
 }
 
+// A length in two octets, behind its first bit, a 1: a 0 bit, then fourteen bits, for 128 or more; otherwise it is 3 (rules 3.2 to 3.4).
+fn long(octets: &[u8], item: usize, at: usize) -> Number
+    requires { ⌜ length (now octets) ≤ packetLimit ⌝ }
+    ensures { λ r. ⌜ LongTaken (now (octets .entry)) item at r ⌝ }
+{
+    match flag(octets, item, at) {
+        Marked::Refused(refusal) => Number::Refused(refusal),
+        Marked::Found(longer, next) => {
+            if longer {
+                return Number::Refused(Refusal::at(Refusal::BAD_FORM, item));
+            }
+            match bits(octets, item, next, LONG_WIDTH) {
+                Number::Refused(refusal) => Number::Refused(refusal),
+                Number::Found(value, end) => {
+                    if value < LONG_LEAST {
+                        return Number::Refused(Refusal::at(Refusal::BAD_FORM, item));
+                    }
+                    Number::Found(value, end)
+                }
+            }
+        }
+    }
+}
+
+// A length or count by the length rule: a 0 bit, then seven bits; or the long form behind a 1 bit (rules 3.1 and 3.2).
+fn counting(octets: &[u8], item: usize, at: usize) -> Number
+    requires { ⌜ length (now octets) ≤ packetLimit ⌝ }
+    ensures { λ r. ⌜ LengthTaken (now (octets .entry)) item at r ⌝ }
+{
+    match flag(octets, item, at) {
+        Marked::Refused(refusal) => Number::Refused(refusal),
+        Marked::Found(is_long, next) => {
+            if is_long {
+                return long(octets, item, next);
+            }
+            bits(octets, item, next, SHORT_WIDTH)
+        }
+    }
+}
+
 // The count of fields of a SEQUENCE OF, 1 to 16, by the length rule (rule 6.4).
 pub fn count(octets: &[u8], at: usize) -> Number
     requires { ⌜ length (now octets) ≤ packetLimit ⌝ }
@@ -151,11 +200,16 @@ pub fn count(octets: &[u8], at: usize) -> Number
     match align(octets, at) {
         Edge::Refused(refusal) => Number::Refused(refusal),
         Edge::Found(edge) => {
-            let from = octet(octets, edge);
-            match length_code::read_within(&octets[from..], Field::LEAST, Field::LIMIT) {
-                Length::Refused(refusal) => Number::Refused(refusal.further(edge / 8)),
-                Length::Value(value, size) => {
-                    let next = edge + 8 * size;
+            let item = edge / 8;
+            match counting(octets, item, edge) {
+                Number::Refused(refusal) => Number::Refused(refusal),
+                Number::Found(value, next) => {
+                    if value < Field::LEAST {
+                        return Number::Refused(Refusal::at(Refusal::OUTSIDE_SIZES, item));
+                    }
+                    if Field::LIMIT < value {
+                        return Number::Refused(Refusal::at(Refusal::OUTSIDE_SIZES, item));
+                    }
                     Number::Found(value, next)
                 }
             }
@@ -163,7 +217,7 @@ pub fn count(octets: &[u8], at: usize) -> Number
     }
 }
 
-// The length of an OCTET STRING (SIZE (1..65535)): two octets with the length minus one (rules 6.8 and 6.9).
+// The length of an OCTET STRING (SIZE (1..65535)): sixteen bits, from an octet edge on, with the length minus one (rules 6.8 and 6.9).
 pub fn size(octets: &[u8], at: usize) -> Number
     requires { ⌜ length (now octets) ≤ packetLimit ⌝ }
     ensures { λ r. ⌜ SizeTaken (now (octets .entry)) at r ⌝ }
@@ -171,17 +225,17 @@ pub fn size(octets: &[u8], at: usize) -> Number
     match align(octets, at) {
         Edge::Refused(refusal) => Number::Refused(refusal),
         Edge::Found(edge) => {
-            let from = octet(octets, edge);
-            if octets.len() - from < 2 {
-                return Number::Refused(Refusal::at(Refusal::ENDS_EARLY, edge / 8));
+            let item = edge / 8;
+            match bits(octets, item, edge, SIZE_WIDTH) {
+                Number::Refused(refusal) => Number::Refused(refusal),
+                Number::Found(less_one, next) => {
+                    if Packet::LIMIT <= less_one {
+                        return Number::Refused(Refusal::at(Refusal::OUTSIDE_SIZES, item));
+                    }
+                    let size = less_one + 1;
+                    Number::Found(size, next)
+                }
             }
-            let high = wide(octets[from]) * 256;
-            let size = high + wide(octets[from + 1]) + 1;
-            if Packet::LIMIT < size {
-                return Number::Refused(Refusal::at(Refusal::OUTSIDE_SIZES, edge / 8));
-            }
-            let next = edge + 16;
-            Number::Found(size, next)
         }
     }
 }

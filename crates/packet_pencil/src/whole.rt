@@ -24,9 +24,7 @@ use packet_rules::choice_of;
 ghost use Prim.Native.Nat.{_≤_};
 ghost use lib.ListN.{length};
 ghost use Rattle.datagram.specs.Sizes.{packetLimit};
-ghost use Rattle.packet.specs.Edition.{byEdition};
-ghost use Rattle.packet.specs.Packet.{readPacket};
-ghost use Rattle.packet.specs.Promise.{PacketTold};
+ghost use Rattle.packet.specs.Promise.{ReadBy};
 ghost use Rattle.packet_reader.specs.Items.{NamedTold};
 ghost use Rattle.packet_pencil.specs.Packet.{ChosenTaken, TypeTaken, StartTaken, AfterTaken};
 
@@ -158,7 +156,7 @@ fn read_named(named: Named, octets: &[u8], ending: Ending) -> PacketRead
 
 // A packet of the edition that an octet names, 0 that of 06/98 and 1 that of 2002; another octet is 15, before all (rules 7.1 and 7.2).
 pub fn read(edition: u8, octets: &[u8], ending: Ending) -> PacketRead
-    ensures { λ r. ⌜ PacketTold (byEdition edition (λ e. readPacket e ending (now (octets .entry)))) r ⌝ }
+    ensures { λ r. ⌜ ReadBy edition ending (now (octets .entry)) r ⌝ }
 {
     match choice_of(edition) {
         Choice::Neither => packet_reader::refused(Refusal::new(Refusal::WRONG_SETTINGS)),

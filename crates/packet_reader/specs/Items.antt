@@ -1,4 +1,5 @@
--- What this crate's functions owe each other: the cases of each item reader's answer, as `Octets` of `packet_laws` says. Definitions only.
+-- What this crate's functions owe each other: the answer of each item reader, as `Octets` of `packet_laws` says, up to the packet in one
+-- edition (`NamedTold`), which the second reader owes too. What `read` promises its caller is in `packet` (`ReadBy`). Definitions only.
 use Prim.Native.Nat.{ℕ, _+_, _*_, _^_, _≤_, _<_}
 use mathlib.Core.Path.{_≡_}
 use mathlib.Core.Bool.{Bool, true, cond}

@@ -19,10 +19,9 @@ use packet::PacketReading;
 ghost use mathlib.Core.Path.{_≡_};
 ghost use Prim.Native.Nat.{_≤_};
 ghost use mathlib.Core.List.{[]};
-ghost use Rattle.packet.specs.Edition.{byEdition};
-ghost use Rattle.packet.specs.Packet.{fieldsLimit, allZero, mayFollow, readPacket};
+ghost use Rattle.packet.specs.Packet.{fieldsLimit, allZero, mayFollow};
 ghost use Rattle.packet_reader.specs.Items.{InPacket, FieldsTold, EndTold, NamedTold};
-ghost use Rattle.packet.specs.Promise.{PacketTold, packetRead, paddedFields};
+ghost use Rattle.packet.specs.Promise.{ReadBy, packetRead, paddedFields};
 ghost use Rattle.length.specs.Answers as answers;
 
 // The place after the last field.
@@ -170,7 +169,7 @@ fn read_named(named: Named, octets: &[u8], ending: Ending) -> PacketRead
 
 // A packet's kind, value and fields in the edition that an octet names, or a refusal: 15 for another octet comes first (rule 7.2).
 pub fn read(edition: u8, octets: &[u8], ending: Ending) -> PacketRead
-    ensures { λ r. ⌜ PacketTold (byEdition edition (λ e. readPacket e ending (now (octets .entry)))) r ⌝ }
+    ensures { λ r. ⌜ ReadBy edition ending (now (octets .entry)) r ⌝ }
 {
     match packet_rules::choice_of(edition) {
         Choice::Edition(named) => read_named(named, octets, ending),

@@ -18,9 +18,10 @@ ghost use mathlib.Core.List.{_++_};
 ghost use lib.ListN.{length};
 ghost use Rattle.length.specs.Promise.{Puts, Put};
 ghost use Rattle.format.specs.Waiting.{waiting, noneWait};
-ghost use Rattle.packet.specs.Edition.{editionOf, byEdition};
+ghost use Rattle.packet.specs.Edition.{editionOf};
 ghost use Rattle.packet.specs.Packet.{isData};
 ghost use Rattle.packet.specs.Write.{packetToWrite};
+ghost use Rattle.packet.specs.Promise.{PacketWritten};
 ghost use Rattle.packet_laws.specs.Laid.{firstOctets, sizeOctets, fieldsOctets, countedFields, laidOctets};
 ghost use Rattle.packet_laws.specs.Items.{BitIs, DataFits, FirstFits, HeaderFits, HeaderPut, FieldFits};
 ghost use Rattle.packet_laws.specs.Items.{FieldPut, FieldsFit, CountedFit, PacketFits};
@@ -234,8 +235,7 @@ pub fn write(
     data: &[u8],
     out: &mut [u8],
 ) -> Written
-    ensures { λ r. ⌜ Puts
-        (byEdition edition (λ e. packetToWrite e kind value (now (types .entry)) (now (lengths .entry)) (now («data» .entry))))
+    ensures { λ r. ⌜ PacketWritten edition kind value (now (types .entry)) (now (lengths .entry)) (now («data» .entry))
         (now (out .entry)) (now (out .exit)) r ⌝ }
 {
     match packet_rules::choice_of(edition) {

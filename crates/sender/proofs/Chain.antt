@@ -26,7 +26,7 @@ use Rattle.sender.specs.declared.Sender.{Sender}
 use Rattle.sender.specs.declared.Sent.{Sent}
 use Rattle.sender.specs.declared.Settings.{Settings}
 use Rattle.sender.proofs.HonestLaws.{extra-same, packetAt-none, packetAt-old, packetAt-new, row-old, row-new, carriedAt-old}
-use Rattle.sender.proofs.Accepted.{Accepted}
+use Rattle.sender.proofs.SendAccepted.{Accepted}
 use Rattle.sender.proofs.Outcome.{sent-says, refused-says}
 
 -- the session after a row: so many sent, and the last 32 places

@@ -1,28 +1,21 @@
 -- The claims of this crate, each proved by a law. Two outcomes of a send are equal because an answer's case is its number and
 -- values, and within the ranges a session is what the rules see of it. Assumes nothing.
 use Prim.Native.Nat.{ℕ}
-use mathlib.Core.Path.{_≡_, refl, sym, ap, ap₂, _∙_}
+use mathlib.Core.Path.{_≡_, sym, ap, ap₂, _∙_}
 use mathlib.Core.List.{List}
 use Rattle.length.specs.Answers.{Answer, done, refused, fitted}
 use Rattle.length.specs.declared.Written.{Written}
 use Rattle.length.proofs.Claims.{written-told}
-use Rattle.octets.specs.Place.{tab}
-use Rattle.octets.specs.ExclusiveOr.{xorAt, exclusiveOr, longest}
-use Rattle.length.specs.Tables.{unless}
-use Rattle.length.specs.Length.{lengthOctets}
-use Rattle.datagram.specs.Write.{numberOctets, itemOctets, itemsOctets, countedOctets, datagramOctets}
-use Rattle.session.specs.Members.{membersOf}
-use Rattle.sender.specs.Sending.{Sending, freshSending, sentOn}
-use Rattle.sender.specs.Carries.{sparesFrom, messagesFrom}
-use Rattle.sender.specs.Send.{datagramToSend}
+use Rattle.sender.specs.Sending.{Sending}
 use Rattle.sender.specs.Promise.{StateAfter, toSend, Sends}
-use Rattle.sender.specs.Claims.{WrittenRight, Chains, OneOutcome, Cases, Claims}
+use Rattle.sender.specs.Claims.{WrittenRight, Chains, OneOutcome, Claims}
 use Rattle.sender.specs.declared.Sender.{Sender}
 use Rattle.sender.specs.declared.Sent.{Sent}
 use Rattle.sender.specs.declared.Settings.{Settings}
+use Rattle.sender.proofs.Cases.{datagram-cases, refusal-cases, history-cases, ranges-cases}
 use Rattle.sender.proofs.Chain.{run-holds}
 use Rattle.sender.proofs.Faithful.{faithful}
-use Rattle.sender.proofs.Back.{writer-writes, sent-reads}
+use Rattle.sender.proofs.SentBack.{writer-writes, sent-reads}
 
 -- one session after a send
 state-one : (a : Answer (List ℕ)) (s : Sender) (packet : List ℕ) (t u : Sender) → StateAfter a s packet t → StateAfter a s packet u → t ≡ u
@@ -58,10 +51,14 @@ chains =
       proper = λ {s} {row} {datagrams} run. run-holds run .proper;
     }
 
-pub cases : Cases
-unfolding datagramToSend unless freshSending sentOn sparesFrom messagesFrom membersOf tab xorAt exclusiveOr longest lengthOctets
-    numberOctets itemOctets itemsOctets countedOctets datagramOctets
-cases = record { first-parity = refl; number-0-again = refl; first-spares = refl }
-
 pub claims : Claims
-claims = record { writtenRight = written-right; chains = chains; oneOutcome = one-outcome; cases = cases }
+claims =
+    record {
+      writtenRight = written-right;
+      chains = chains;
+      oneOutcome = one-outcome;
+      datagrams = datagram-cases;
+      refusals = refusal-cases;
+      history = history-cases;
+      ranges = ranges-cases;
+    }

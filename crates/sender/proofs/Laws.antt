@@ -8,7 +8,7 @@ pub use Rattle.sender.proofs.ItemLaws.{items-count, item-spare, item-me
 -- ---- a packet kept, and the ranges after it
 pub use Rattle.sender.proofs.Kept.{packet-fits, sent-limit, size-limit, arrays-kept, stored-of, history-kept, ranges-kept}
 -- ---- what a send that is no refusal says
-pub use Rattle.sender.proofs.Accepted.{accepted, size-done, size-refused}
+pub use Rattle.sender.proofs.SendAccepted.{accepted, size-done, size-refused}
 -- ---- honest senders
 pub use Rattle.sender.proofs.HonestLaws.{before-length, extra-same}
 -- ---- a chain of sends, what an accepted or refused send says, and when one is accepted

@@ -1,15 +1,16 @@
+mod Cases
 mod Slots
 mod History
 mod ItemLaws
 mod Kept
-mod Accepted
+mod SendAccepted
 mod FreshSteps
 mod HonestLaws
 mod Outcome
 mod Chain
 mod Faithful
-mod Back
+mod SentBack
 mod Takes
-mod About
 pub mod Laws
 pub mod Claims
+pub mod Instance

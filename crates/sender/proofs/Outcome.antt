@@ -21,7 +21,7 @@ use Rattle.sender.specs.Promise.{Proper, SentOn, StateAfter, toSend, Sen
 use Rattle.sender.specs.declared.Sender.{Sender}
 use Rattle.sender.specs.declared.Sent.{Sent}
 use Rattle.sender.specs.declared.Settings.{Settings}
-use Rattle.sender.proofs.Accepted.{size-done, size-refused, Accepted, accepted}
+use Rattle.sender.proofs.SendAccepted.{size-done, size-refused, Accepted, accepted}
 
 ranges-told : (b : Bool) (rows : List (Option ℕ)) (w old octets : List ℕ)
     → fitted (unless (when (not b) outsideRanges ∷ rows) w) old ≡ done octets

@@ -29,7 +29,7 @@ use Rattle.sender.specs.Promise.{Proper, toSend, Sends}
 use Rattle.sender.specs.declared.Sender.{Sender}
 use Rattle.sender.specs.declared.Sent.{Sent}
 use Rattle.sender.specs.declared.Settings.{Settings}
-use Rattle.sender.proofs.Back.{next-fit, extra-next}
+use Rattle.sender.proofs.SentBack.{next-fit, extra-next}
 
 -- what reads is within the limit
 read-short : (s : List ℕ) (d : DatagramParts) → readDatagram s ≡ done d → length s ≤ datagramLimit

@@ -9,3 +9,4 @@ pub mod Honest
 pub mod Run
 pub mod Cases
 pub mod Claims
+pub mod Instance

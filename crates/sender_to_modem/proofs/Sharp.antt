@@ -7,6 +7,7 @@ use lib.ListN.{length, getD, take, replicate, length-append, length-replicate}
 use lib.Seq.{take-append-seam, take-append-le, getD-append-seam}
 use native.Mathlib.Omega.{arith}
 use Rattle.octets.specs.Place.{tab}
+use Rattle.octets.proofs.Laws.{length-tab}
 use Rattle.session.specs.Cells.{unknownAt, keptBefore, keptAhead}
 use Rattle.session.specs.Reached.{Known, Unknown}
 use Rattle.session.specs.View.{View, numbers}
@@ -17,8 +18,8 @@ use Rattle.session_calls.specs.declared.receiver.AfterOffer.{AfterOffer}
 use Rattle.sender.proofs.Laws.{run-holds}
 use Rattle.sender_to_modem.specs.Marks.{Mark, arrives, lost}
 use Rattle.sender_to_modem.specs.Transfer.{Delivered, Drained, Transfer, begins, refuses, loses, brings}
-use Rattle.sender_to_modem.specs.Sharp.{oneMore, oneTooMany, StaysWaiting, Sharp}
-use Rattle.sender_to_modem.proofs.Lines.{pending, pending-after, Steady, steady, steady-after}
+use Rattle.sender_to_modem.specs.Sharp.{oneMore, oneTooMany, StaysWaiting, Sharp, LastMatters}
+use Rattle.sender_to_modem.proofs.Lines.{pending, pending-after, pending-lost, Steady, steady, steady-after}
 use Rattle.sender_to_modem.proofs.Offered.{first-missed, come-known}
 use Rattle.sender_to_modem.proofs.Draining.{drained-none}
 use Rattle.sender_to_modem.proofs.Copies.{copiesOf, copies-long, sender-run, SentAs, sent-as}
@@ -119,3 +120,12 @@ sharp k x (brings {x = y} ran sends sent owes drained) before e few begin =
     let left : stands .left ≡ length before =
     omega (arith, stands .marks, long, many, length-replicate (oneMore k) lost) in
     stays stands wrote owes many drained (length before) left refl refl refl
+
+-- ---- the last one lost
+pub last-matters : LastMatters
+last-matters k x ran few before e =
+    let stands = holds ran (steady k (x .line) few) .stands in
+    let some : pending (x .line) ≡ pending before + 1 = ap pending e ∙ pending-lost before in
+    let has : length (x .modem) ≡ stands .left =
+    ap length (stands .modemHas) ∙ length-tab (stands .left) (wanted (x .line) (x .packets)) in
+    omega (arith, stands .marks, stands .sent, some, has)

@@ -1,5 +1,6 @@
--- The figure is sharp: with k + 1 lost in a row something stays waiting (rule 23.8). Statements only.
-use Prim.Native.Nat.{ℕ, _+_, _%_, _≤_}
+-- The conditions on the line are sharp: with k + 1 lost in a row something stays waiting (rule 23.8), and so it does if the last one is
+-- lost (rule 23.1). Statements only.
+use Prim.Native.Nat.{ℕ, _+_, _%_, _≤_, _<_}
 use mathlib.Core.Path.{_≡_}
 use mathlib.Core.Logic.{_⊎_}
 use mathlib.Core.List.{List, [], _∷_, _++_, map}
@@ -32,3 +33,8 @@ abbrev pub Sharp : Type 0
 Sharp = (k : ℕ) (x : Transfer) → Ran k x → (before : List Mark) → x .line ≡ oneTooMany k before → NeverMoreInARow k before
     → (before ≡ []) ⊎ LastArrives before
     → StaysWaiting k (length before) x
+
+-- if the last datagram is lost, the modem does not have all packets, however few were lost in a row
+abbrev pub LastMatters : Type 0
+LastMatters = (k : ℕ) (x : Transfer) → Ran k x → NeverMoreInARow k (x .line) → (before : List Mark) → x .line ≡ before ++ (lost ∷ [])
+    → length (x .modem) < length (x .packets)

@@ -6,7 +6,7 @@ use Rattle.session.proofs.Grows.{repair-known, length-repair}
 use Rattle.session.proofs.Enough.{repair-closed}
 use Rattle.session.proofs.Least.{known-within, known-reached, reached-known, known-any-order, known-more}
 use Rattle.session.proofs.Honest.{repair-right}
-use Rattle.session.proofs.Burst.{burst-mended, burst-repaired}
+use Rattle.session.proofs.MendedBurst.{burst-mended, burst-repaired}
 use Rattle.session.proofs.Spares.{spares-exact}
 
 pub claims : Claims

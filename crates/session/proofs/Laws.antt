@@ -22,7 +22,7 @@ pub use Rattle.session.proofs.Zeros.{up-to-zeros-same}
 -- ---- an honest sender
 pub use Rattle.session.proofs.Honest.{repair-right}
 -- ---- a burst
-pub use Rattle.session.proofs.Burst.{burst-mended}
+pub use Rattle.session.proofs.MendedBurst.{burst-mended}
 -- ---- what a packet and its spares fill, with no parity held
 pub use Rattle.session.proofs.Spares.{keep-unknown, keep-known, keep-other, keep-stays, spares-exact, repair-no-parity}
 -- ---- the ranges: lengths, n and m

@@ -1,6 +1,4 @@
-pub mod RepairCases
 pub mod Cases
-pub mod RangesCases
 pub mod Passing
 pub mod Fill
 pub mod Search
@@ -11,7 +9,7 @@ pub mod Members
 pub mod Held
 pub mod Zeros
 pub mod Honest
-pub mod Burst
+pub mod MendedBurst
 pub mod Spares
 pub mod Turns
 pub mod Sizes
@@ -22,4 +20,5 @@ pub mod Ranges
 pub mod Release
 pub mod Stays
 pub mod Claims
+pub mod Instance
 pub mod Laws

@@ -45,7 +45,7 @@ use Rattle.session.proofs.Filled.{fill-known, filled-sound}
 use Rattle.session.proofs.Holding.{accepted-right, held-sound}
 use Rattle.session.proofs.GoesOn.{sound-goes-on}
 use Rattle.session.proofs.Ranges.{sound-of}
-use Rattle.session.proofs.RangesCases.{ranges-cases}
+use Rattle.session.proofs.Cases.{ranges-cases}
 use Rattle.session.proofs.Release.{release-leaves}
 
 -- the view with other numbers kept

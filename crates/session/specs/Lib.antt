@@ -13,3 +13,4 @@ pub mod Claims
 pub mod RepairCases
 pub mod Cases
 pub mod RangesCases
+pub mod Instance

@@ -1,7 +1,7 @@
 mod Called
 mod Outcomes
 mod Seen
-pub mod Laws
 pub mod Claims
 mod Solved
 pub mod SolverClaims
+pub mod Laws

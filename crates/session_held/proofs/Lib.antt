@@ -1,3 +1,4 @@
+pub mod Cases
 pub mod Slots
 pub mod States
 pub mod Places

@@ -3,3 +3,4 @@ pub mod Table
 pub mod Laid
 pub mod Heard
 pub mod Promise
+pub mod Cases

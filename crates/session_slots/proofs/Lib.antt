@@ -1,2 +1,3 @@
+pub mod Cases
 mod Turns
 pub mod Laws

@@ -14,6 +14,7 @@ pub mod Numbers
 pub mod Rows
 pub mod Told
 pub mod Solve
+pub mod Octets
 pub mod Filling
 pub mod SolutionsClaims
 pub mod SolutionsLaws

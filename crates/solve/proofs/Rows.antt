@@ -64,6 +64,10 @@ row-asks cells held asked e below =
 pub filledIn : List Cell → (ℕ → ℕ → ℕ) → ℕ → List ℕ
 filledIn cells v p = tab packetLimit (λ k. cond (unknownAt cells p) (v k p) (getD ((cellAt cells p) .octets) k 0))
 
+pub length-filledIn : (cells : List Cell) (v : ℕ → ℕ → ℕ) (p : ℕ) → length (filledIn cells v p) ≡ packetLimit
+unfolding filledIn
+length-filledIn cells v p = length-tab packetLimit (λ k. cond (unknownAt cells p) (v k p) (getD ((cellAt cells p) .octets) k 0))
+
 module _ (cells : List Cell) (messages : List Message) (held : List Held) (n : Numbered messages (equationAt held)) where
   -- what equation e asks for at octet k
   abbrev pub asked : ℕ → ℕ → ℕ
@@ -107,7 +111,7 @@ module _ (cells : List Cell) (messages : List Message) (held : List Held) (n : N
       ∙ sym (row-asks cells held (asked k) e below)
 
   -- ---- values that satisfy the table at every octet make a solution
-  filledIn-at : (v : ℕ → ℕ → ℕ) (p k : ℕ) → k < packetLimit
+  pub filledIn-at : (v : ℕ → ℕ → ℕ) (p k : ℕ) → k < packetLimit
       → getD (filledIn cells v p) k 0 ≡ cond (unknownAt cells p) (v k p) (getD ((cellAt cells p) .octets) k 0)
   unfolding filledIn
   filledIn-at v p k inside =
@@ -152,7 +156,7 @@ module _ (cells : List Cell) (messages : List Message) (held : List Held) (n : N
   unfolding filledIn exclusiveOr padded
   holds-solution v all =
       record {
-        long = λ p. length-tab packetLimit (λ k. cond (unknownAt cells p) (v k p) (getD ((cellAt cells p) .octets) k 0));
+        long = length-filledIn cells v;
         known = λ p known.
             tab-ext packetLimit (λ k. cond (unknownAt cells p) (v k p) (getD ((cellAt cells p) .octets) k 0))
             (λ k. getD ((cellAt cells p) .octets) k 0)

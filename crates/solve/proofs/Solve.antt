@@ -41,7 +41,7 @@ or-by false b h = refl
 module _ (cells : List Cell) (messages : List Message) (held : List Held) (n : Numbered messages (equationAt held))
     (long : length cells ≡ keptNumbers) where
   -- ---- the test of all rows
-  fit-says : allFit cells held (table cells messages held n) ≡ true → NothingAsked cells messages held n
+  pub fit-says : allFit cells held (table cells messages held n) ≡ true → NothingAsked cells messages held n
   unfolding allFit rowFits
   fit-says e i below empty k inside =
       eqb-true _ 0
@@ -66,7 +66,7 @@ module _ (cells : List Cell) (messages : List Message) (held : List Held) (n : N
   abbrev after : List Cell
   after = cellsAfter cells held (table cells messages held n) tableRows
 
-  abbrev lonely : ℕ → ℕ
+  abbrev pub lonely : ℕ → ℕ
   lonely p = aloneRow columns tableRows (columnsOf (table cells messages held n)) p
 
   cell-is : (p : ℕ) → p < keptNumbers → cellAt after p ≡ cellAfter cells held (table cells messages held n) tableRows p
@@ -83,7 +83,7 @@ module _ (cells : List Cell) (messages : List Message) (held : List Held) (n : N
       cond b (filledCell 0 repaired (rowOctets cells held (rowAt (table cells messages held n) (lonely p)))) (cellAt cells p))
       e
 
-  inside-view : (p : ℕ) → Unknown cells p → p < keptNumbers
+  pub inside-view : (p : ℕ) → Unknown cells p → p < keptNumbers
   inside-view p unknown = omega (arith, unknown-inside cells p unknown)
 
   after-size : length after ≡ length cells
@@ -98,7 +98,7 @@ module _ (cells : List Cell) (messages : List Message) (held : List Held) (n : N
       ∙ sym (List·getD-eq-default cells blankCell {n = p} (omega arith)))
       (below-or-not p keptNumbers)
 
-  found-of : (p : ℕ) → lonely p < tableRows → HasAlone columns tableRows (columnsOf (table cells messages held n)) p
+  pub found-of : (p : ℕ) → lonely p < tableRows → HasAlone columns tableRows (columnsOf (table cells messages held n)) p
   found-of p below =
       record {
         row = lonely p;
@@ -106,7 +106,7 @@ module _ (cells : List Cell) (messages : List Message) (held : List Held) (n : N
         alone = alone-found columns tableRows (columnsOf (table cells messages held n)) p below;
       }
 
-  not-found : (p : ℕ) → tableRows ≤ lonely p → HasAlone columns tableRows (columnsOf (table cells messages held n)) p → ⊥
+  pub not-found : (p : ℕ) → tableRows ≤ lonely p → HasAlone columns tableRows (columnsOf (table cells messages held n)) p → ⊥
   not-found p past found =
       omega (
         arith,

@@ -40,13 +40,13 @@ module _ (cells : List Cell) (messages : List Message) (held : List Held) (n : N
   NothingAsked = (i : ℕ) → i < tableRows → Empty columns (columnsOf table i) → (k : ℕ) → k < packetLimit → asks k i ≡ 0
 
   -- a solution for any given values
-  abbrev values : (ℕ → ℕ) → ℕ → ℕ → ℕ
+  abbrev pub values : (ℕ → ℕ) → ℕ → ℕ → ℕ
   values g k = solved columns tableRows (columnsOf table) (asks k) g
 
-  abbrev given : (ℕ → ℕ) → ℕ → List ℕ
+  abbrev pub given : (ℕ → ℕ) → ℕ → List ℕ
   given g = filledIn cells (values g)
 
-  given-solution : NothingAsked → (g : ℕ → ℕ) → Solution cells messages (given g)
+  pub given-solution : NothingAsked → (g : ℕ → ℕ) → Solution cells messages (given g)
   unfolding rowAsks
   given-solution nothing g =
       holds-solution cells messages held n (values g)

@@ -17,7 +17,8 @@ abbrev pub fixed : List ℕ → Cell
 fixed octets = filledCell 0 repaired (padded octets)
 
 pub record Cases : Type 0 where
-  -- every message has two or more unknown members, yet the messages together determine them (rules 14.2 and 14.3)
+  -- every message has two or more unknown members, yet the messages together determine them, at places before the base too: `01`, `02`
+  -- and `04` have the exclusive or `03`, `06` and `07` (rules 14.1 to 14.4)
   pub three-together : Solved (unknownCell ∷ unknownCell ∷ unknownCell ∷ [])
       (overPlaces (0 ∷ 1 ∷ []) (0x03 ∷ []) ∷ overPlaces (1 ∷ 2 ∷ []) (0x06 ∷ []) ∷ overPlaces (0 ∷ 1 ∷ 2 ∷ []) (0x07 ∷ []) ∷ [])
       (fixed (0x01 ∷ []) ∷ fixed (0x02 ∷ []) ∷ fixed (0x04 ∷ []) ∷ [])

@@ -6,6 +6,7 @@ use mathlib.Core.List.{List, map, List·Memᴰ as Among}
 use lib.ListN.{length, getD}
 use Rattle.octets.specs.Place.{tab}
 use Rattle.octets.specs.ExclusiveOr.{exclusiveOr}
+use Rattle.length.specs.Claims.{Octets}
 use Rattle.datagram.specs.Sizes.{packetLimit}
 use Rattle.session.specs.Cells.{Cell, cellAt}
 use Rattle.session.specs.Repair.{Message}
@@ -33,3 +34,21 @@ Unsolvable cells messages = (x : ℕ → List ℕ) → Solution cells messages x
 -- the equations and the known octets allow only one value for number p (rule 14.2)
 abbrev pub OneValue : List Cell → List Message → ℕ → Type 0
 OneValue cells messages p = (x y : ℕ → List ℕ) → Solution cells messages x → Solution cells messages y → x p ≡ y p
+
+-- ---- over octets
+-- the octets of every number and message are below 256, as in every session in memory
+pub record OfOctets (cells : List Cell) (messages : List Message) : Type 0 where
+  pub numbers : (p : ℕ) → Octets ((cellAt cells p) .octets)
+  pub held : (message : Message) → Among message messages → Octets (message .octets)
+
+-- a solution whose values are below 256
+pub record OctetSolution (cells : List Cell) (messages : List Message) (x : ℕ → List ℕ) : Type 0 where
+  pub solution : Solution cells messages x
+  pub octets : (p : ℕ) → Octets (x p)
+
+-- no octets satisfy all equations (rule 14.6); the octets that satisfy them allow only one value for number p (rule 14.2)
+abbrev pub NoOctets : List Cell → List Message → Type 0
+NoOctets cells messages = (x : ℕ → List ℕ) → OctetSolution cells messages x → ⊥
+
+abbrev pub OneOctets : List Cell → List Message → ℕ → Type 0
+OneOctets cells messages p = (x y : ℕ → List ℕ) → OctetSolution cells messages x → OctetSolution cells messages y → x p ≡ y p

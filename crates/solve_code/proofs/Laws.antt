@@ -2,3 +2,5 @@
 
 -- ---- one outcome, one answer
 pub use Rattle.solve_code.proofs.Claims.{solved-told}
+-- ---- octets in memory, octets in view
+pub use Rattle.solve_code.proofs.Octets.{view-octets}

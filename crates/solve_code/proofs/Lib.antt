@@ -1,4 +1,5 @@
 pub mod Held
+mod Octets
 mod Unknown
 mod Equation
 mod Laying

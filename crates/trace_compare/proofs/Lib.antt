@@ -1,3 +1,4 @@
+pub mod Cases
 mod Having
 mod Sameness
 mod SideBySide
@@ -8,5 +9,4 @@ mod Reading
 mod Refusing
 mod Calls
 pub mod Laws
-pub mod Cases
 pub mod Claims

@@ -1,3 +1,4 @@
+pub mod Cases
 mod TraceLines
 mod Dropping
 mod Front
@@ -5,5 +6,4 @@ mod Rest
 mod Lists
 mod OneOutcome
 pub mod Laws
-pub mod Cases
 pub mod Claims

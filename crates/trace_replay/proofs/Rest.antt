@@ -15,10 +15,9 @@ use Rattle.session.specs.Offer.{offer}
 use Rattle.line.specs.Hex.{lineOctets}
 use Rattle.line.specs.Lines.{Made, silent, lineFeed, refusalLine, lineOffered, offerLine, offerMade, answerLine, step, lastLine}
 use Rattle.line.specs.Lines.{linesFrom, steps, program}
-use Rattle.line.proofs.Laws.{NoFeed}
+use Rattle.line.proofs.Laws.{NoFeed, at-feed, at-other, past-line}
 use Rattle.trace_replay.specs.Replay.{numberIn, dropped, replayStep, replaySteps, replay}
 use Rattle.trace_replay.specs.Claims.{notDropped, linesText}
-use Rattle.trace_replay.proofs.TraceLines.{at-feed, at-other, past-line}
 use Rattle.trace_replay.proofs.Dropping.{dropped-none, not-dropped}
 use Rattle.trace_replay.proofs.Front.{short-left}
 

@@ -1,19 +1,16 @@
 -- The caller names the edition at each packet read or written, by an octet (rule 7.1); an octet that names none is 15, before all other
--- refusals (rule 7.2). What the packet readers and the packet writer promise for that octet. Definitions only.
+-- refusals (rule 7.2). What the calls promise for that octet is in `packet` (`ReadBy`, `PacketWritten`). Definitions only.
 use Prim.Native.Nat.{ℕ, _<_}
 use mathlib.Core.Path.{_≡_}
 use mathlib.Core.Logic.{_↔_}
 use mathlib.Core.List.{List}
 use mathlib.Core.Option.{some}
 use Rattle.length.specs.Refusals.{wrongSettings}
-use Rattle.length.specs.Answers.{Answer, refuse, writtenOutcome}
+use Rattle.length.specs.Answers.{refuse, writtenOutcome}
 use Rattle.length.specs.Tables.{refusalIn}
-use Rattle.length.specs.Promise.{Puts}
 use Rattle.length.specs.declared.Written.{Written}
-use Rattle.packet.specs.Edition.{choiceOf, byEdition}
-use Rattle.packet.specs.Packet.{readPacket}
-use Rattle.packet.specs.Write.{packetToWrite}
-use Rattle.packet.specs.Promise.{PacketTold, packetOutcome}
+use Rattle.packet.specs.Edition.{choiceOf}
+use Rattle.packet.specs.Promise.{packetOutcome, ReadBy, PacketWritten}
 use Rattle.packet.specs.declared.types.Choice.the-variants as choice
 use Rattle.packet.specs.declared.types.Ending.{Ending}
 use Rattle.packet.specs.declared.types.PacketKind.{PacketKind}
@@ -23,14 +20,6 @@ use Rattle.packet.specs.declared.types.PacketRead.{PacketRead}
 -- an octet names this edition
 abbrev pub Names : ℕ → Named → Type 0
 Names octet named = choiceOf octet ≡ choice.Edition named
-
--- what `packet_reader::read` and `packet_pencil::read` promise
-abbrev pub ReadBy : ℕ → Ending → List ℕ → PacketRead → Type 0
-ReadBy octet ending octets r = PacketTold (byEdition octet (λ edition. readPacket edition ending octets)) r
-
--- what `packet_writer::write` must write
-abbrev pub packetBy : ℕ → PacketKind → ℕ → List ℕ → List ℕ → List ℕ → Answer (List ℕ)
-packetBy octet kind value types lengths octets = byEdition octet (λ edition. packetToWrite edition kind value types lengths octets)
 
 pub record AnotherEdition : Type 0 where
   -- an octet names one of the two editions, or it is over 1 (rule 7.1)
@@ -42,4 +31,4 @@ pub record AnotherEdition : Type 0 where
       → (refusalIn (packetOutcome r) ≡ some wrongSettings) ↔ (1 < octet)
   -- and so does the packet writer, whatever it was to write
   pub written : (octet : ℕ) (kind : PacketKind) (value : ℕ) (types lengths octets : List ℕ) {old new : List ℕ} {r : Written}
-      → Puts (packetBy octet kind value types lengths octets) old new r → 1 < octet → writtenOutcome r ≡ refuse wrongSettings
+      → PacketWritten octet kind value types lengths octets old new r → 1 < octet → writtenOutcome r ≡ refuse wrongSettings

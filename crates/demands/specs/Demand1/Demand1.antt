@@ -5,19 +5,20 @@
 -- (`offerUnchanged`, `releaseUnchanged`, ..) says that a refusal changes nothing (rule 2.25). Readers change nothing. The datagram reader
 -- and the packet reader refuse what their definitions meet in reading order; `isDatagram`, `isPacket` and `isRepaired` say without that
 -- order what they do not refuse, and `datagramRefusals` and `packetRefusals` what they do, and at which place. The places of the other
--- calls are in `places`. The refusals of the calls on images are in Handover, of solving in Losses, of a joiner in `frame` (`fieldRows`),
--- and of replay and compare in the claims of their crates. Statements only.
+-- calls are in `places`. The refusals of the calls on images are in Handover, of a joiner in `frame` (`fieldRows`), and of replay and
+-- compare in the claims of their crates. Statements only.
 use Prim.Native.Nat.{ℕ, _≤_}
 use mathlib.Core.Path.{_≡_}
 use mathlib.Core.Logic.{_↔_}
-use mathlib.Core.Bool.{Bool, true, cond}
+use mathlib.Core.Bool.{Bool, true, false, cond}
 use mathlib.Core.List.{List, _++_}
 use mathlib.Core.Option.{none, some}
 use lib.ListN.{length, replicate}
+use Rattle.length.specs.Refusals.{outsideRanges, noSolution}
 use Rattle.length.specs.Answers.{Answer, done, lengthOutcome, writtenOutcome}
 use Rattle.length.specs.Tables.{first, refusalIn, placeIn, roomRow}
 use Rattle.length.specs.Length.{lengthOctets, lengthWriterRows, lengthToWrite}
-use Rattle.length.specs.Promise.{LengthRead, Puts}
+use Rattle.length.specs.Promise.{LengthRead, WithinRead, Puts}
 use Rattle.length.specs.Claims.{Octets}
 use Rattle.length.specs.declared.Length.{Length}
 use Rattle.length.specs.declared.Written.{Written}
@@ -27,10 +28,11 @@ use Rattle.datagram.specs.Write.{carriedOf, datagramOctets, datagramWriterRows,
 use Rattle.datagram.specs.Promise.{DatagramReads, readOutcome}
 use Rattle.datagram.specs.declared.kind.Kind.{Kind}
 use Rattle.datagram.specs.declared.reader.DatagramRead.{DatagramRead}
+use Rattle.datagram_writer.specs.Promise.{DatagramWritten}
 use Rattle.packet.specs.Edition.{Edition, editionOf, byEdition}
 use Rattle.packet.specs.Packet.{readPacket}
 use Rattle.packet.specs.Write.{packetOctets, packetWriterRows, packetToWrite}
-use Rattle.packet.specs.Promise.{packetOutcome}
+use Rattle.packet.specs.Promise.{packetOutcome, ReadBy, PacketWritten}
 use Rattle.packet.specs.declared.types.PacketKind as packets
 use Rattle.packet.specs.declared.types.Ending.{Ending}
 use Rattle.packet.specs.declared.types.Ending.the-variants.{Whole, Repaired}
@@ -38,12 +40,15 @@ use Rattle.packet.specs.declared.types.Named.{Named}
 use Rattle.packet.specs.declared.types.PacketRead.{PacketRead}
 use Rattle.session_release.specs.Outcome.{releasedOutcome}
 use Rattle.session_offer.specs.Outcome.{offeredOutcome}
-use Rattle.session_held.specs.Table.{lentBy}
 use Rattle.session_held.specs.Laid.{sessionInRanges}
 use Rattle.session_held.specs.declared.Session.{Session}
 use Rattle.session_calls.specs.Receiver.{OfferOwes, ReleaseOwes}
 use Rattle.session_calls.specs.declared.receiver.AfterOffer.{AfterOffer}
 use Rattle.session_calls.specs.declared.receiver.AfterRelease.{AfterRelease}
+use Rattle.solve_code.specs.Outcome.{solvedOutcome}
+use Rattle.session_calls.specs.Solver.{SolveOwes}
+use Rattle.session_calls.specs.SolverClaims.{HasSolution, HasNone}
+use Rattle.session_calls.specs.declared.solver.AfterSolve.{AfterSolve}
 use Rattle.sender.specs.Send.{carriedNext}
 use Rattle.sender.specs.Sender.{sendingOf}
 use Rattle.sender.specs.Promise.{senderRows, Sends}
@@ -54,12 +59,10 @@ use Rattle.frame.specs.Promise.{handedOutcome, FieldOwes, LossOwes}
 use Rattle.frame.specs.declared.Joiner.{Joiner}
 use Rattle.frame.specs.declared.Joined.{Joined}
 use Rattle.line.specs.Hex.{octetsIn, lineRows, lineOctets}
-use Rattle.image.specs.Layout.{imageVersion02}
-use Rattle.image.specs.Image.{imageToWrite}
-use Rattle.image.specs.Promise.{ImageRead, restoredOutcome}
+use Rattle.image.specs.Promise.{ImageWritten, ImageRead, restoredOutcome}
 use Rattle.image.specs.declared.Restored.{Restored}
-use Rattle.demands.specs.Demand1.Refusals.{lengthRows, offerRows, releaseRows}
-use Rattle.demands.specs.Common.NamedEdition.{Names, ReadBy, packetBy, AnotherEdition}
+use Rattle.demands.specs.Demand1.Refusals.{lengthRows, withinRows, offerRows, releaseRows}
+use Rattle.demands.specs.Common.NamedEdition.{Names, AnotherEdition}
 use Rattle.demands.specs.Demand1.PacketRefusals.{PacketRefusals}
 use Rattle.demands.specs.Demand1.DatagramRefusals.{DatagramRefusals}
 
@@ -92,6 +95,9 @@ pub record IsRepaired (edition : Edition) (octets : List ℕ) : Type 0 where
 pub record Readers : Type 0 where
   -- a length: 3 or 1 for its form (rule 3.6)
   pub length : {octets : List ℕ} {r : Length} → LengthRead octets r → refusalIn (lengthOutcome r) ≡ first (lengthRows octets)
+  -- a length from least to most: then 4 (rule 3.6)
+  pub lengthWithin : {least most : ℕ} {octets : List ℕ} {r : Length} → WithinRead least most octets r
+      → refusalIn (lengthOutcome r) ≡ first (withinRows least most octets)
   -- a datagram: 2, then reading order (rule 4.15)
   pub datagram : {octets : List ℕ} {r : DatagramRead} → DatagramReads octets r → refusalIn (readOutcome r) ≡ refusalIn (readDatagram octets)
   -- a packet: 15, 4 for the whole packet, then reading order (rule 6.13)
@@ -114,9 +120,9 @@ pub record Readers : Type 0 where
   pub datagramRefusals : DatagramRefusals
 
 -- ---- writers
--- a refused call that was to write w leaves the caller's buffer unchanged (rule 2.25)
-abbrev pub Unchanged : Answer (List ℕ) → Type 0
-Unchanged w = (old new : List ℕ) (r : Written) (n : ℕ) → Puts w old new r → refusalIn (writtenOutcome r) ≡ some n → new ≡ old
+-- refused, a call with this promise leaves the caller's buffer unchanged (rule 2.25)
+abbrev pub Unchanged : (List ℕ → List ℕ → Written → Type 0) → Type 0
+Unchanged promise = (old new : List ℕ) (r : Written) (n : ℕ) → promise old new r → refusalIn (writtenOutcome r) ≡ some n → new ≡ old
 
 pub record Writers : Type 0 where
   -- the length writer: 4, 13 (rule 3.8)
@@ -124,12 +130,12 @@ pub record Writers : Type 0 where
       → refusalIn (writtenOutcome r) ≡ first (lengthWriterRows n ++ roomRow (lengthOctets n) old)
   -- the datagram writer: 4, 15, 4, 13 (rule 4.17)
   pub datagram : (number : ℕ) (packet : List ℕ) (kind : Kind) (lengths run : List ℕ) {old new : List ℕ} {r : Written}
-      → Puts (datagramToWrite number packet kind lengths run) old new r
+      → DatagramWritten number packet kind lengths run old new r
       → refusalIn (writtenOutcome r)
       ≡ first (datagramWriterRows packet kind lengths run ++ roomRow (datagramOctets (carriedOf number packet kind lengths run)) old)
   -- the packet writer, in the edition that the octet names: 4, 15, 12, 14, 4, 13 (rule 6.20)
   pub packet : (octet : ℕ) (named : Named) → Names octet named → (kind : packets.PacketKind) (value : ℕ) (types lengths octets : List ℕ)
-      {old new : List ℕ} {r : Written} → Puts (packetBy octet kind value types lengths octets) old new r
+      {old new : List ℕ} {r : Written} → PacketWritten octet kind value types lengths octets old new r
       → refusalIn (writtenOutcome r)
       ≡ first
       (packetWriterRows (editionOf named) kind value types lengths octets
@@ -138,12 +144,12 @@ pub record Writers : Type 0 where
   pub line : (line : List ℕ) {old new : List ℕ} {r : Written} → Puts (lineOctets line) old new r
       → refusalIn (writtenOutcome r) ≡ first (lineRows line ++ roomRow (octetsIn line) old)
   -- a refused write leaves the caller's buffer unchanged (rule 28.2)
-  pub lengthUnchanged : (n : ℕ) → Unchanged (lengthToWrite n)
+  pub lengthUnchanged : (n : ℕ) → Unchanged (Puts (lengthToWrite n))
   pub datagramUnchanged : (number : ℕ) (packet : List ℕ) (kind : Kind) (lengths run : List ℕ)
-      → Unchanged (datagramToWrite number packet kind lengths run)
+      → Unchanged (DatagramWritten number packet kind lengths run)
   pub packetUnchanged : (octet : ℕ) (kind : packets.PacketKind) (value : ℕ) (types lengths octets : List ℕ)
-      → Unchanged (packetBy octet kind value types lengths octets)
-  pub lineUnchanged : (line : List ℕ) → Unchanged (lineOctets line)
+      → Unchanged (PacketWritten octet kind value types lengths octets)
+  pub lineUnchanged : (line : List ℕ) → Unchanged (Puts (lineOctets line))
 
 -- ---- the receiving session (rules 10.5 and 12.9)
 pub record Receiving : Type 0 where
@@ -158,6 +164,23 @@ pub record Receiving : Type 0 where
   pub releaseUnchanged : {s : Session} {leave : Bool} {old new : List ℕ} {r : AfterRelease} {n : ℕ} → ReleaseOwes s leave old new r
       → refusalIn (releasedOutcome (r .answer)) ≡ some n → (r .session ≡ s) × (new ≡ old)
 
+-- ---- solve (rules 14.6 and 14.7). Whether something satisfies the equations is no test with a row in a table, so each answer has its
+-- condition. That octets are enough to ask for is in `session_calls` (`SolveOctets`)
+pub record SolvingCalls : Type 0 where
+  -- 17 exactly outside the ranges
+  pub outside : {s : Session} {r : AfterSolve} → SolveOwes s r
+      → (refusalIn (solvedOutcome (r .answer)) ≡ some outsideRanges) ↔ (sessionInRanges s ≡ false)
+  -- 23 exactly within them and if nothing satisfies the equations
+  pub unsolvable : {s : Session} {r : AfterSolve} → SolveOwes s r
+      → (refusalIn (solvedOutcome (r .answer)) ≡ some noSolution) ↔ ((sessionInRanges s ≡ true) × HasNone s)
+  -- no refusal exactly within them and if something does
+  pub filled : {s : Session} {r : AfterSolve} → SolveOwes s r
+      → (refusalIn (solvedOutcome (r .answer)) ≡ none) ↔ ((sessionInRanges s ≡ true) × HasSolution s)
+  -- refused, it returns the session unchanged (rule 28.2), and its place is 0 (rule 2.30)
+  pub unchanged : {s : Session} {r : AfterSolve} {n : ℕ} → SolveOwes s r → refusalIn (solvedOutcome (r .answer)) ≡ some n
+      → r .session ≡ s
+  pub place : {s : Session} {r : AfterSolve} → SolveOwes s r → placeIn (solvedOutcome (r .answer)) ≡ 0
+
 -- ---- the sending session (rules 15.8 and 15.11)
 pub record SendingCalls : Type 0 where
   -- send: 17, 16, 15, 4, 13 (rule 15.8); refused, it returns the session unchanged and does not touch the buffer (rule 15.11)
@@ -168,13 +191,14 @@ pub record SendingCalls : Type 0 where
       → refusalIn (writtenOutcome (r .answer)) ≡ some n → (r .sender ≡ s) × (new ≡ old)
 
 -- ---- places
--- a refused call that was to write w has place 0 (rule 2.30)
-abbrev pub Unplaced : Answer (List ℕ) → Type 0
-Unplaced w = (old new : List ℕ) (r : Written) → Puts w old new r → placeIn (writtenOutcome r) ≡ 0
+-- refused, a call with this promise has place 0 (rule 2.30)
+abbrev pub Unplaced : (List ℕ → List ℕ → Written → Type 0) → Type 0
+Unplaced promise = (old new : List ℕ) (r : Written) → promise old new r → placeIn (writtenOutcome r) ≡ 0
 
 pub record Places : Type 0 where
   -- the length reader's place: a length is read at the very front (rule 3.9)
   pub length : {octets : List ℕ} {r : Length} → LengthRead octets r → placeIn (lengthOutcome r) ≡ 0
+  pub lengthWithin : {least most : ℕ} {octets : List ℕ} {r : Length} → WithinRead least most octets r → placeIn (lengthOutcome r) ≡ 0
   -- offer passes on the datagram reader's place; its other refusals, 17 before the reading and 8, 9 and 7 after it, have place 0 (rule
   -- 2.30)
   pub offer : {s : Session} {octets : List ℕ} {r : AfterOffer} {q : DatagramRead} → OfferOwes s octets r → DatagramReads octets q
@@ -182,19 +206,19 @@ pub record Places : Type 0 where
   -- refusals that are not met while reading have place 0 (rule 2.30)
   pub release : {s : Session} {leave : Bool} {old new : List ℕ} {r : AfterRelease} → ReleaseOwes s leave old new r
       → placeIn (releasedOutcome (r .answer)) ≡ 0
-  pub lengthWriter : (n : ℕ) → Unplaced (lengthToWrite n)
+  pub lengthWriter : (n : ℕ) → Unplaced (Puts (lengthToWrite n))
   pub datagramWriter : (number : ℕ) (packet : List ℕ) (kind : Kind) (lengths run : List ℕ)
-      → Unplaced (datagramToWrite number packet kind lengths run)
+      → Unplaced (DatagramWritten number packet kind lengths run)
   pub packetWriter : (octet : ℕ) (kind : packets.PacketKind) (value : ℕ) (types lengths octets : List ℕ)
-      → Unplaced (packetBy octet kind value types lengths octets)
-  pub line : (line : List ℕ) → Unplaced (lineOctets line)
+      → Unplaced (PacketWritten octet kind value types lengths octets)
+  pub line : (line : List ℕ) → Unplaced (Puts (lineOctets line))
   pub send : {s : Sender} {settings : Settings} {packet old new : List ℕ} {r : Sent} → Sends s settings packet old new r
       → placeIn (writtenOutcome (r .answer)) ≡ 0
   pub joinerField : {j : Joiner} {type : ℕ} {octets old new : List ℕ} {r : Joined} → FieldOwes j type octets old new r
       → placeIn (handedOutcome (r .answer)) ≡ 0
   pub joinerLost : {j : Joiner} {r : Joined} → LossOwes j r → placeIn (handedOutcome (r .answer)) ≡ 0
   -- so have those of an image, which is neither a datagram nor a packet
-  pub imageWriter : (s : Session) → Unplaced (imageToWrite imageVersion02 (lentBy s))
+  pub imageWriter : (s : Session) → Unplaced (ImageWritten s)
   pub imageReader : {text : List ℕ} {r : Restored} → ImageRead text r → placeIn (restoredOutcome r) ≡ 0
 
 pub record Demand1 : Type 0 where
@@ -205,5 +229,6 @@ pub record Demand1 : Type 0 where
   pub offerReads : {s : Session} {octets : List ℕ} {r : AfterOffer} {q : DatagramRead} {n : ℕ} → OfferOwes s octets r
       → DatagramReads octets q → sessionInRanges s ≡ true → refusalIn (readOutcome q) ≡ some n
       → refusalIn (offeredOutcome (r .answer)) ≡ some n
+  pub solving : SolvingCalls
   pub sending : SendingCalls
   pub places : Places

@@ -12,13 +12,14 @@ use Rattle.length.specs.Refusals as number
 use Rattle.length.specs.Answers.{refused}
 use Rattle.length.specs.declared.Refusal.{Refusal}
 use Rattle.length.specs.Length.{within}
+use Rattle.length.specs.Claims.{Octets}
 use Rattle.format.specs.Spelling.{gap}
 use Rattle.format.specs.Places.{Place, bitsAt}
 use Rattle.datagram.specs.Sizes.{packetLimit}
 use Rattle.packet.specs.Edition.{addedWidth, Edition, editionOf}
 use Rattle.packet.specs.Packet.{fieldsLeast, fieldsLimit, allZero}
 use Rattle.packet_laws.specs.Octets.{bitSetAt, kindOf}
-use Rattle.packet.specs.Promise.{packetOutcome}
+use Rattle.packet.specs.Promise.{packetOutcome, ReadBy}
 use Rattle.packet.specs.declared.types.PacketKind.the-variants.{Indicator}
 use Rattle.packet.specs.declared.types.Named.{Named}
 use Rattle.packet.specs.declared.types.Enumerated.{Enumerated}
@@ -27,7 +28,6 @@ use Rattle.packet.specs.declared.types.Ending.the-variants.{Whole, Repaired}
 use Rattle.packet.specs.declared.types.PacketRead.{PacketRead}
 use Rattle.length.specs.Tables.{first, refusalIn}
 use Rattle.demands.specs.Demand1.Refusals.{lengthRows}
-use Rattle.demands.specs.Common.NamedEdition.{ReadBy}
 use Rattle.demands.specs.Demand1.PacketItems.{Item, fieldsAllowed, countOfFields, header, padding, dataLength, end, Due, Packet, rows}
 use Rattle.demands.specs.Demand1.PacketItems.{octetOf, isAdded, behindMark, valueEnds, valueRows, octetsFrom, octetHere, hasFields}
 use Rattle.demands.specs.Demand1.PacketItems.{firstValues}
@@ -54,8 +54,8 @@ pub record CutValue (e : Enumerated) (octets : List ℕ) (p : Place) : Type 0 wh
 
 -- 1: the octets end early (rule 2.1)
 pub data EndsEarly (edition : Edition) (octets : List ℕ) : Type 0 where
-  -- they are a front of a packet, which may be one over the packet limit
-  front : (more : List ℕ) → 1 ≤ length more → Packet edition (octets ++ more) → EndsEarly edition octets
+  -- with more octets behind them they are a packet, which may be one over the packet limit
+  front : (more : List ℕ) → Octets more → 1 ≤ length more → Packet edition (octets ++ more) → EndsEarly edition octets
   -- or they end inside a length that is outside the sizes whatever follows: a count of fields after the first of two octets, or a data
   -- length after its first octet, if that is not zero (rules 3.6 and 6.9)
   inCount : (p : Place) → Due edition octets p countOfFields → p + 8 ≡ 8 * length octets → 0x80 ≤ octetHere octets p

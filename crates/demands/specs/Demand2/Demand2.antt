@@ -1,5 +1,5 @@
 -- Demand 2. Reading and writing follow T.38 Annex A of the named edition in the aligned packed encoding (rule 28.3): this is what the
--- readers and writers promise (LengthRead, DatagramReads, PacketTold, Puts), since their answers are those of the definitions `lengthAt`,
+-- readers and writers promise (LengthRead, DatagramReads, ReadBy, Puts), since their answers are those of the definitions `lengthAt`,
 -- `readDatagram` and `readPacket`, `lengthToWrite`, `datagramToWrite` and `packetToWrite`. What is written reads back to the same fields,
 -- and what is read as received writes back to the same octets (rule 28.4). In a session fresh at its start the known numbers are exactly
 -- those reached from arrived, spare and parity octets, and those that solving fixed (rule 28.5). Numbers leave in order, each place once,

@@ -20,13 +20,14 @@ use Rattle.datagram.specs.declared.kind.Kind.the-variants as kind
 use Rattle.datagram.specs.declared.reader.Part.{Part}
 use Rattle.datagram.specs.declared.reader.DatagramRead.{DatagramRead}
 use Rattle.datagram.specs.declared.reader.Reading.the-variants as reading
+use Rattle.datagram_writer.specs.Promise.{DatagramWritten}
 use Rattle.packet.specs.Packet.{allData, fieldsLimit, noField}
 use Rattle.packet.specs.declared.types.PacketKind as packets
 use Rattle.packet.specs.declared.types.Field.{Field}
 use Rattle.packet.specs.declared.types.Ending.the-variants.{Whole, Repaired}
 use Rattle.packet.specs.declared.types.PacketRead.{PacketRead}
 use Rattle.packet.specs.declared.types.PacketReading.the-variants as packetReading
-use Rattle.demands.specs.Common.NamedEdition.{ReadBy, packetBy}
+use Rattle.packet.specs.Promise.{PacketWritten, ReadBy}
 use Rattle.session.specs.View.{numbers}
 use Rattle.sender.specs.Sending.{historyKept}
 use Rattle.sender.specs.Carries.{sparesFrom, messagesFrom}
@@ -74,12 +75,12 @@ runRead octets count r = flatten (map (octetsOf octets) (take count (r .items)))
 -- what was written reads back the same (rule 4.20), and what was read writes back the same (rule 4.21)
 pub record DatagramTrips : Type 0 where
   pub readsBack : (number : ℕ) (packet : List ℕ) (kind : Kind) (lengths run : List ℕ) {old new : List ℕ} {w : Written} {n : ℕ}
-      → Puts (datagramToWrite number packet kind lengths run) old new w → w ≡ written.Octets n
+      → DatagramWritten number packet kind lengths run old new w → w ≡ written.Octets n
       → {r : DatagramRead} → DatagramReads (take n new) r → DatagramSame (take n new) number packet kind (cut lengths run) r
   pub writesBack : {octets : List ℕ} {r : DatagramRead} {number : ℕ} {packet : Part} {kind : Kind} {count : ℕ} → Octets octets
       → DatagramReads octets r
       → r .reading ≡ reading.Datagram number packet kind count → {old new : List ℕ} {w : Written}
-      → Puts (datagramToWrite number (octetsOf octets packet) kind (lengthsRead count r) (runRead octets count r)) old new w
+      → DatagramWritten number (octetsOf octets packet) kind (lengthsRead count r) (runRead octets count r) old new w
       → length octets ≤ length old → WrittenBack (length octets) octets old new w
 
 -- ---- packets
@@ -107,17 +108,17 @@ pub record PacketSame (input : List ℕ) (kind : packets.PacketKind) (value : �
 -- the caller names at both calls (rule 7.1)
 pub record PacketTrips : Type 0 where
   pub readsBack : (octet : ℕ) (kind : packets.PacketKind) (value : ℕ) (types lengths octets : List ℕ) {old new : List ℕ} {w : Written} {n : ℕ}
-      → Puts (packetBy octet kind value types lengths octets) old new w → w ≡ written.Octets n
+      → PacketWritten octet kind value types lengths octets old new w → w ≡ written.Octets n
       → {r : PacketRead} → ReadBy octet Whole (take n new) r → PacketSame (take n new) kind value types lengths octets r
   -- read as repaired, it may go on with zeros (rule 6.12)
   pub readsRepaired : (octet : ℕ) (kind : packets.PacketKind) (value : ℕ) (types lengths octets : List ℕ) {old new : List ℕ} {w : Written} {n : ℕ}
-      → Puts (packetBy octet kind value types lengths octets) old new w → w ≡ written.Octets n
+      → PacketWritten octet kind value types lengths octets old new w → w ≡ written.Octets n
       → (zeros : ℕ) → n + zeros ≤ packetLimit → {r : PacketRead} → ReadBy octet Repaired (take n new ++ replicate zeros 0) r
       → PacketSame (take n new ++ replicate zeros 0) kind value types lengths octets r
   pub writesBack : (octet : ℕ) (octets : List ℕ) {r : PacketRead} {kind : packets.PacketKind} {value count : ℕ} → Octets octets
       → ReadBy octet Whole octets r
       → r .reading ≡ packetReading.Packet kind value count → {old new : List ℕ} {w : Written}
-      → Puts (packetBy octet kind value (typesOf count r) (sizesOf count r) (dataRead octets count r)) old new w
+      → PacketWritten octet kind value (typesOf count r) (sizesOf count r) (dataRead octets count r) old new w
       → length octets ≤ length old → WrittenBack (length octets) octets old new w
 
 -- ---- the sending session

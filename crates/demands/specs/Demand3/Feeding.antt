@@ -15,8 +15,10 @@ use Rattle.session_held.specs.Promise.{Fresh}
 use Rattle.session_held.specs.declared.Session.{Session}
 use Rattle.session_offer.specs.declared.Offered.the-variants as answer
 use Rattle.session_calls.specs.Receiver.{OfferOwes, ReleaseOwes}
+use Rattle.session_calls.specs.Solver.{SolveOwes}
 use Rattle.session_calls.specs.declared.receiver.AfterOffer.{AfterOffer}
 use Rattle.session_calls.specs.declared.receiver.AfterRelease.{AfterRelease}
+use Rattle.session_calls.specs.declared.solver.AfterSolve.{AfterSolve}
 use Rattle.sender.specs.Sending.{historyKept}
 use Rattle.sender.specs.Honest as sending
 
@@ -57,12 +59,13 @@ module _ (row datagrams : List (List ℕ)) where
     pub call : OfferOwes s octets r
 
   -- the sessions that this sender alone feeds, from a fresh one on: its datagrams are offered in any order and any number of times,
-  -- accepted or refused, with releases among them, with leave to skip or without
+  -- accepted or refused, with releases, with leave to skip or without, and solves among them
   pub data Fed : Session → Type 0 where
     fresh : {s : Session} → Fresh s → Fed s
     offered : {s : Session} {S : ℕ} {r : AfterOffer} → Fed s → Offers S s r → Fed (r .session)
     released : {s : Session} {leave : Bool} {old new : List ℕ} {r : AfterRelease} → Fed s → ReleaseOwes s leave old new r
         → Fed (r .session)
+    solved : {s : Session} {r : AfterSolve} → Fed s → SolveOwes s r → Fed (r .session)
 
   -- a list of accepted or repeated datagrams, with no release meanwhile (rule 28.8): from one session to another
   pub data Takes : List ℕ → Session → Session → Type 0 where

@@ -135,12 +135,12 @@ pub record InSending : Type 0 where
       → SendsHeld sent settings packet lengths o old newS newO new r → SendsHeld sent settings packet lengths o old otherS otherO other q
       → (SameHistory r q newS otherS newO otherO) × (new ≡ other)
 
--- the program: `put_digits` and `pair_up` of `line_hex`; the result line, `put_refusal`, `keep_line` and `clear_line` of `line_code`;
--- `replay_line` of `trace_replay_code`
+-- the program: `put_digits` and `pair_up` of `line_hex`; `put_kept` (a result line, of any octets), `put_refusal`, `keep_line` and
+-- `clear_line` of `line_code`; `replay_line` of `trace_replay_code`
 pub record InLines : Type 0 where
-  pub putOctets : (octets old : List ℕ) (at : ℕ) → OneLent (Appends (hexOf octets) old at)
+  pub putDigits : (octets old : List ℕ) (at : ℕ) → OneLent (Appends (hexOf octets) old at)
   pub pairUp : (line old : List ℕ) → One (λ (new : List ℕ). new ≡ octetsIn line ++ drop (length line / 2) old)
-  pub putResult : (kind number : ℕ) (octets old : List ℕ) (at : ℕ) → OneLent (Appends (resultLine kind number octets) old at)
+  pub putKept : (kind number : ℕ) (octets old : List ℕ) (at : ℕ) → OneLent (Appends (resultLine kind number octets) old at)
   pub putRefusal : (why : Refusal) (old : List ℕ) (at : ℕ) → OneLent (Appends (refusalLine why) old at)
   pub keepLine : (old : List ℕ) (begun : ℕ) (more : List ℕ) → OneLent (LineKept old begun more)
   pub clearLine : One (λ (new : List ℕ). LineIn new 0)

@@ -3,21 +3,21 @@
 use Prim.Native.Nat.{ℕ}
 use mathlib.Core.Path.{_≡_}
 use mathlib.Core.List.{List}
-use Rattle.length.specs.Answers.{Answer}
 use Rattle.length.specs.Length.{lengthToWrite}
 use Rattle.length.specs.Promise.{Puts}
 use Rattle.length.specs.declared.Written.{Written}
-use Rattle.datagram.specs.Write.{datagramToWrite}
 use Rattle.datagram.specs.declared.kind.Kind.{Kind}
+use Rattle.datagram_writer.specs.Promise.{DatagramWritten}
 use Rattle.packet.specs.declared.types.PacketKind as packetKinds
 use Rattle.packet.specs.declared.types.Ending.{Ending}
 use Rattle.session_held.specs.Table.{Lent}
 use Rattle.image.specs.Layout.{versionWritten}
 use Rattle.image.specs.Image.{imageToWrite}
-use Rattle.image.specs.Promise.{ImageRead}
+use Rattle.image.specs.Promise.{ImageWritten, ImageRead}
 use Rattle.length.specs.Claims as lengths
 use Rattle.datagram.specs.Claims as datagrams
 use Rattle.packet.specs.Claims as packets
+use Rattle.packet.specs.Promise.{ReadBy, PacketWritten}
 use Rattle.sender.specs.Claims as sending
 use Rattle.session_calls.specs.Claims as sessions
 use Rattle.session_calls.specs.Solver.{SolveOwes}
@@ -26,24 +26,24 @@ use Rattle.line.specs.Claims as lines
 use Rattle.frame.specs.Claims as frames
 use Rattle.frame_feed.specs.Claims as frameFeed
 use Rattle.trace_replay.specs.Claims as replays
-use Rattle.demands.specs.Common.NamedEdition.{ReadBy, packetBy}
 use Rattle.trace_compare.specs.Claims as comparisons
 use Rattle.demands.specs.OneOutcome.OneTold.{One, OneTold}
 use Rattle.demands.specs.OneOutcome.OneInside.{OneInside}
 
--- two outcomes of a call that writes w to the front of the caller's buffer
-abbrev pub OneWrite : Answer (List ℕ) → Type 0
-OneWrite w = (old new other : List ℕ) (r q : Written) → Puts w old new r → Puts w old other q → (r ≡ q) × (new ≡ other)
+-- two outcomes that a writer's promise allows, of the caller's buffer too
+abbrev pub OneWrite : (List ℕ → List ℕ → Written → Type 0) → Type 0
+OneWrite promise = (old new other : List ℕ) (r q : Written) → promise old new r → promise old other q → (r ≡ q) × (new ≡ other)
 
 -- `write` of `length_code`, `datagram_writer`, `packet_writer` and `image_writer`
 pub record Writers : Type 0 where
-  pub length : (n : ℕ) → OneWrite (lengthToWrite n)
+  pub length : (n : ℕ) → OneWrite (Puts (lengthToWrite n))
   pub datagram : (number : ℕ) (packet : List ℕ) (kind : Kind) (lengths run : List ℕ)
-      → OneWrite (datagramToWrite number packet kind lengths run)
+      → OneWrite (DatagramWritten number packet kind lengths run)
   pub packet : (octet : ℕ) (kind : packetKinds.PacketKind) (value : ℕ) (types lengths octets : List ℕ)
-      → OneWrite (packetBy octet kind value types lengths octets)
-  -- `write` of `image_writer`, and its `write_core` over the caller's memory
-  pub image : (session : Lent) → OneWrite (imageToWrite versionWritten session)
+      → OneWrite (PacketWritten octet kind value types lengths octets)
+  pub image : (s : Session) → OneWrite (ImageWritten s)
+  -- `write_core` of `image_writer`, over the caller's memory
+  pub imageCore : (session : Lent) → OneWrite (Puts (imageToWrite versionWritten session))
 
 -- all public calls of the library: `read`, `read_within` and `write` of `length_code`; `read` of `datagram_reader`, `packet_reader`,
 -- `packet_pencil` and `image_reader`; `write` of `datagram_writer`, `packet_writer` and `image_writer`; `Session::fresh`, `offer`,

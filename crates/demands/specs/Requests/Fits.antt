@@ -13,6 +13,7 @@ use Rattle.datagram.specs.Write.{datagramToWrite}
 use Rattle.datagram.specs.Inner.Heads.{itemSize}
 use Rattle.datagram.specs.declared.kind.Kind.{Kind}
 use Rattle.datagram.specs.declared.kind.Kind.the-variants as kind
+use Rattle.datagram_writer.specs.Promise.{DatagramWritten}
 use Rattle.sender.specs.Inner.Held.{Arrays}
 use Rattle.sender.specs.Promise.{Sends}
 use Rattle.sender.specs.declared.Sender.{Sender}
@@ -27,13 +28,13 @@ pub record Fits : Type 0 where
   -- with a buffer of the datagram limit they are written, whatever the octets are (rule 1.17)
   pub allSpares : (number : ℕ) (packet run : List ℕ) {old new : List ℕ} {w : Written} → length packet ≡ packetLimit
       → length run ≡ sparesLimit * packetLimit → datagramLimit ≤ length old
-      → Puts (datagramToWrite number packet kind.Spares (replicate sparesLimit packetLimit) run) old new w → w ≡ written.Octets fullSize
+      → DatagramWritten number packet kind.Spares (replicate sparesLimit packetLimit) run old new w → w ≡ written.Octets fullSize
   -- and so is everything else that the datagram writer does not refuse
   pub room : (number : ℕ) (packet : List ℕ) (kind : Kind) (lengths run : List ℕ) {octets old new : List ℕ} {w : Written}
       → datagramToWrite number packet kind lengths run ≡ done octets → datagramLimit ≤ length old
-      → Puts (datagramToWrite number packet kind lengths run) old new w → w ≡ written.Octets (length octets)
+      → DatagramWritten number packet kind lengths run old new w → w ≡ written.Octets (length octets)
   -- no datagram that was written is over the limit, neither the datagram writer's nor a send's (rule 1.2)
   pub limited : (number : ℕ) (packet : List ℕ) (kind : Kind) (lengths run : List ℕ) {old new : List ℕ} {w : Written} {n : ℕ}
-      → Puts (datagramToWrite number packet kind lengths run) old new w → w ≡ written.Octets n → n ≤ datagramLimit
+      → DatagramWritten number packet kind lengths run old new w → w ≡ written.Octets n → n ≤ datagramLimit
   pub sent : {s : Sender} {settings : Settings} {packet old new : List ℕ} {r : Sent} {n : ℕ} → Arrays (s .sizes) (s .octets)
       → Sends s settings packet old new r → r .answer ≡ written.Octets n → n ≤ datagramLimit

@@ -27,7 +27,7 @@ use Rattle.session_held.specs.Promise.{Sized, Fresh}
 use Rattle.session_held.specs.declared.Session.{Session}
 use Rattle.sender.specs.Honest.{HonestSender}
 use Rattle.image.specs.Layout.{ImageVersion, imageVersion01, imageVersion02}
-use Rattle.image.specs.Image.{imageText, namesEdition, editionNamed, readText, imageRows, imageToWrite, ImageHolds, LentOctets, imageLimit}
+use Rattle.image.specs.Image.{imageText, namesEdition, editionNamed, readText, imageRows, ImageHolds, LentOctets, imageLimit}
 use Rattle.image.specs.Promise.{ImageWritten, ImageRead}
 use Rattle.image.specs.declared.Restore.the-variants as restore
 use Rattle.image.specs.declared.Restored.{Restored}
@@ -102,7 +102,7 @@ pub record ImageRefuses : Type 0 where
   -- 17 for a session outside its ranges, 13 for an image longer than the caller's buffer, which is then unchanged (rule 20.19)
   pub write : (s : Session) {old new : List ℕ} {w : Written} → ImageWritten s old new w
       → refusalIn (writtenOutcome w) ≡ first (imageRows (lentBy s) ++ roomRow (imageText imageVersion02 (viewOf s)) old)
-  pub writeUnchanged : (s : Session) → Unchanged (imageToWrite imageVersion02 (lentBy s))
+  pub writeUnchanged : (s : Session) → Unchanged (ImageWritten s)
   -- a buffer of `Image::limit` characters is large enough for any image (rule 20.20)
   pub roomEnough : {s : Session} {old new : List ℕ} {w : Written} → Sized s → LentOctets (lentBy s) → ImageWritten s old new w
       → imageLimit packetLimit ≤ length old → w ≡ written.Refused (refusal noRoom) → ⊥

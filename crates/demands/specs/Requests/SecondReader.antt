@@ -4,10 +4,9 @@
 use Prim.Native.Nat.{ℕ}
 use mathlib.Core.Path.{_≡_}
 use mathlib.Core.List.{List}
-use Rattle.packet.specs.Promise.{packetOutcome}
+use Rattle.packet.specs.Promise.{packetOutcome, ReadBy}
 use Rattle.packet.specs.declared.types.Ending.{Ending}
 use Rattle.packet.specs.declared.types.PacketRead.{PacketRead}
-use Rattle.demands.specs.Common.NamedEdition.{ReadBy}
 
 -- two answers are the same: in fields or refusal, and in the unused places
 pub record SameAnswer (quick second : PacketRead) : Type 0 where

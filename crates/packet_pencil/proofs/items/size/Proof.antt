@@ -1,7 +1,6 @@
--- `packet_pencil::items::size` meets its contract. Each answer is a law of `ReadData`. The sum fits because the two octets are
--- there. Assumes nothing.
+-- `packet_pencil::items::size` meets its contract. Each answer is a law of `ReadData`. Assumes nothing.
 use borrow.Author.Needs.{needs}
-use Rattle.packet_pencil.proofs.ReadData.{sizes}
+use Rattle.packet_pencil.proofs.ReadData.{size-edge, size-refused, size-over, size-found}
 use Rattle.packet_pencil.proofs.items.size.Statement.{statement}
 use Rattle.packet_pencil.proofs.items.size.Tie as tie
 
@@ -14,56 +13,53 @@ enum-known-refusal c = search needs
 enum-known-edge : tie.Need-enum-known-edge
 enum-known-edge c = search needs
 
-octet-requires : tie.Need-octet-requires
-octet-requires c κs = search needs
+bits-requires : tie.Need-bits-requires
+bits-requires c κs = search needs
 
-sub-if1 : tie.Need-sub-if1
-sub-if1 c = search needs
+enum-known-refusal-2 : tie.Need-enum-known-refusal-2
+enum-known-refusal-2 c = search needs
+
+enum-known-less-one : tie.Need-enum-known-less-one
+enum-known-less-one c = search needs
 
 at-requires : tie.Need-at-requires
 at-requires c κs = search needs
 
 returns : tie.Need-returns
-returns c = search sizes
-
-shared-slice-read-wide : tie.Need-shared-slice-read-wide
-shared-slice-read-wide c = search needs
-
-wide-requires : tie.Need-wide-requires
-wide-requires c κs = search needs
-
-mul-high : tie.Need-mul-high
-mul-high c = search needs
-
-add-wide : tie.Need-add-wide
-add-wide c = search needs
-
-shared-slice-read-wide-2 : tie.Need-shared-slice-read-wide-2
-shared-slice-read-wide-2 c = search needs
-
-wide-requires-2 : tie.Need-wide-requires-2
-wide-requires-2 c κs = search needs
+returns c =
+    let over = c .before in
+    let value = over .before .before in
+    let bits = value .before .before in
+    let edge = bits .before .before in
+    let align = edge .before .before in
+    size-over (align .align .ensures) (λ k. align .before .shared-slice-known .given k .fits) (edge .edge .given .1) (bits .bits .ensures)
+    (value .less-one .given .1) (over .if1 .taken) (c .at .ensures)
 
 add-size : tie.Need-add-size
 add-size c = search needs
 
-add-size-2 : tie.Need-add-size-2
-add-size-2 c = search needs
-
-at-requires-2 : tie.Need-at-requires-2
-at-requires-2 c κs = search needs
-
 returns-2 : tie.Need-returns-2
-returns-2 c = search sizes
-
-add-next : tie.Need-add-next
-add-next c = search sizes
+returns-2 c =
+    let why = c .before in
+    size-edge (why .before .before .align .ensures) (why .refusal .given .1)
 
 returns-3 : tie.Need-returns-3
-returns-3 c = search sizes
+returns-3 c =
+    let why = c .before in
+    let bits = why .before .before in
+    let edge = bits .before .before in
+    let align = edge .before .before in
+    size-refused (align .align .ensures) (λ k. align .before .shared-slice-known .given k .fits) (edge .edge .given .1) (bits .bits .ensures)
+    (why .refusal2 .given .1)
 
 returns-4 : tie.Need-returns-4
-returns-4 c = search sizes
+returns-4 c =
+    let value = c .before .before in
+    let bits = value .before .before in
+    let edge = bits .before .before in
+    let align = edge .before .before in
+    size-found (align .align .ensures) (λ k. align .before .shared-slice-known .given k .fits) (edge .edge .given .1) (bits .bits .ensures)
+    (value .less-one .given .1) (c .if1 .left)
 
 pub size-spec : {M : Type 1} → statement M
 size-spec =
@@ -72,20 +68,12 @@ size-spec =
     align-requires
     enum-known-refusal
     enum-known-edge
-    octet-requires
-    sub-if1
+    bits-requires
+    enum-known-refusal-2
+    enum-known-less-one
     at-requires
     returns
-    shared-slice-read-wide
-    wide-requires
-    mul-high
-    add-wide
-    shared-slice-read-wide-2
-    wide-requires-2
     add-size
-    add-size-2
-    at-requires-2
     returns-2
-    add-next
     returns-3
     returns-4)

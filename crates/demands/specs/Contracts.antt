@@ -1,0 +1,3 @@
+-- The contracts of the calls, tied to the promises that the theorems cite.
+pub mod LibraryContracts
+pub mod HostContracts
