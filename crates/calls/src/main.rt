@@ -1,5 +1,7 @@
 // The calls program: one public call a line, one answer a line, so that another program can be compared with it call by call (rule 25.1).
 // It holds one receiving session, one sending session and one joiner, all fresh at the start (rule 25.2).
+#![tactic(auto)]
+
 mod compare;
 mod input;
 mod replay;

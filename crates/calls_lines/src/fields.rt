@@ -4,6 +4,7 @@ use datagram::{Packet, Parity};
 
 // What a line asks for.
 #[derive(Drop)]
+#[derive(Clone, Copy)]
 pub struct Target {
     pub field: u8,
     pub number: u16,

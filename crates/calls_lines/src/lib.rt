@@ -1,5 +1,7 @@
 // The lines of the program `calls`: their arguments, their answers, and the calls that need no session (rules 25.1 to 25.14). The functions
 // are proved to be safe and to terminate.
+#![tactic(auto)]
+
 mod answers;
 mod arguments;
 mod fields;

@@ -1,5 +1,7 @@
 // The lines of the program `calls` that need a session or the joiner (rules 25.15 to 25.34). The functions are proved to be safe and to
 // terminate.
+#![tactic(auto)]
+
 mod image_calls;
 mod joiner;
 mod receiver;
@@ -12,6 +14,7 @@ use session_calls::Session;
 
 // What the program holds: both sessions and the joiner (rule 25.2).
 #[derive(Drop)]
+#[derive(Clone, Copy)]
 pub struct Held {
     pub receiver: Session,
     pub sender: Sender,

@@ -1,6 +1,8 @@
 // `compare FIRST SECOND` compares two recorded traces and writes the entries of `trace_compare_code::compare`, one a line: the number in
 // four hexadecimal digits, then 1 to 5 (rules 22.1 and 22.23). If the comparison is refused, it writes `refused`, the refusal's number and
 // place, the trace and the line (rule 22.24). `./compare` makes a table of it.
+#![tactic(auto)]
+
 mod telling;
 
 use line::Line;

@@ -5,6 +5,7 @@ use length::Refusal;
 
 // A packet, spare or message as a part of the datagram.
 #[derive(Drop)]
+#[derive(Clone, Copy)]
 pub struct Part {
     pub start: usize,
     pub size: usize,

@@ -1,5 +1,7 @@
 // The sizes (rules 1.1 to 1.7): each limit is a constant of the type that it limits, and is written once, here (rule 1.18). The contracts
 // of the functions say that the constants equal the definitions in specs/.
+#![tactic(auto)]
+
 ghost use Rattle.std.specs.Prelude.{◌≡◌};
 ghost use Rattle.datagram_sizes.specs.Sizes.{packet_least, packet_limit, message_least, message_limit, datagram_limit};
 ghost use Rattle.datagram_sizes.specs.Sizes.{spares_least, spares_limit, covered_least, covered_limit, messages_least, messages_limit};

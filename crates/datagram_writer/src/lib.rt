@@ -1,4 +1,6 @@
 // The datagram writer, and the writers of a datagram's items with their sizes, as `datagram` defines them (rules 4.1 to 4.7 and 4.17).
+#![tactic(auto)]
+
 mod put;
 mod writer;
 

@@ -1,6 +1,8 @@
 // The program `explain` for the support desk: it reads a packet in hexadecimal from each line, of 06/98 or, behind the word new, of 2002,
 // and writes it item by item, in the names of Annex A (rules 19.4 to 19.7). The functions of `packet_pencil` say where each item ends, what
 // it holds and why it is refused, and the last line is its `read`.
+#![tactic(auto)]
+
 mod fields;
 mod input;
 mod last;

@@ -11,6 +11,7 @@ use packet_pencil::{Number, field_type, t30_data, t30_indicator};
 
 // The ENUMERATED types of Annex A.
 #[derive(Drop)]
+#[derive(Clone, Copy)]
 pub enum Which {
     Indicator,
     Data,

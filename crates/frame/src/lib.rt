@@ -1,4 +1,6 @@
 // What a joiner is (rules 16.1 to 16.19). It is fed one field or one lost number at a time, and returns the sender's whole HDLC frames.
+#![tactic(auto)]
+
 ghost use Rattle.std.specs.Prelude.{◌≡◌};
 ghost use Rattle.frame.specs.Frame.{frame_limit};
 ghost use Rattle.frame.specs.Promise.{FreshMade};
@@ -7,6 +9,7 @@ use length::Refusal;
 
 // What a joiner keeps: whether it is tainted, and the size and octets of the open frame. Octets past the size are zero (rule 16.16).
 #[derive(Drop)]
+#[derive(Clone, Copy)]
 pub struct Joiner {
     pub tainted: bool,
     pub size: u16,

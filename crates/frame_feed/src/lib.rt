@@ -1,6 +1,8 @@
 // From a receiving session to frames: what release returns is fed to a joiner. The caller names the edition at each packet. A packet that
 // reads in it is fed field by field (rule 17.1). A packet that does not read, or for which no edition is named, is fed as one lost number
 // (rule 17.3). A lost number, which has no octets, is fed in the same way (rule 17.2).
+#![tactic(auto)]
+
 mod turn;
 
 ghost use Rattle.std.specs.Prelude.{◌≡◌, length};

@@ -1,5 +1,7 @@
 // The calls of a joiner, as `frame` defines them (rules 16.1 to 16.16). A call takes a joiner by value, any saved one too, and returns it
 // by value with the answer. `feed` and `taint` are the same calls for a caller that lends the storage.
+#![tactic(auto)]
+
 mod inside;
 
 ghost use Rattle.frame.specs.Promise.{FieldOwes, LossOwes};

@@ -2,6 +2,8 @@
 // end of its input (rules 20.23 to 20.26). Without --load it begins with a fresh session, without --save it leaves no image. It reports
 // what goes wrong in one line on standard error. If an image cannot be loaded, or its file cannot be written, the program reads no line; if
 // its results cannot all be written, it leaves no image (rules 20.29 to 20.31).
+#![tactic(auto)]
+
 mod arguments;
 mod loading;
 mod playing;

@@ -1,5 +1,7 @@
 // The functions that C calls (`include/tubarexi.h`): the public calls, on sessions in the caller's own memory, with answers encoded as
 // numbers (rules 24.1 to 24.4 and 24.11). A call converts nothing: the functions inside the library borrow the table and the stores.
+#![tactic(auto)]
+
 mod image_calls;
 mod joiner;
 mod packet_calls;

@@ -12,6 +12,7 @@ use session_held::{Counts, Session};
 // Base and counts, as C stores them.
 #[repr(C)]
 #[derive(Drop)]
+#[derive(Clone, Copy)]
 pub struct Head {
     pub base: u16,
     pub received: u32,

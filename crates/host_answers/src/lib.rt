@@ -1,5 +1,7 @@
 // Answers and choices encoded as numbers, since no enum is passed to or from C. The structs have C's layout. Each function here encodes one
 // kind of answer or decodes one kind of choice (rules 24.1, 24.2, 24.5 to 24.8).
+#![tactic(auto)]
+
 mod answers;
 mod joiner;
 mod packet_answers;

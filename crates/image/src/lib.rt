@@ -1,5 +1,7 @@
 // A receiving session as an image, lines of hexadecimal (rules 20.1 to 20.20): the definitions, which say in one description what is read
 // and what is written, their proofs, and the limits that code and hosts use.
+#![tactic(auto)]
+
 ghost use Rattle.std.specs.Prelude.{◌≡◌};
 ghost use Rattle.datagram.specs.Sizes.{packet_limit};
 ghost use Rattle.image.specs.Image.{first_image_size, number_line_limit, image_limit};

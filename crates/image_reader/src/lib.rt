@@ -1,5 +1,7 @@
 // Reads an image of a receiving session, as `image` defines it, in version 02 or 01 (rule 20.9). The order is 21, then 20 over the whole
 // image, then 17 (rules 20.12 and 20.18).
+#![tactic(auto)]
+
 mod items;
 mod laying;
 mod number;

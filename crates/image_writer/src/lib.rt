@@ -1,4 +1,6 @@
 // Writes a receiving session as an image of version 02, as `image` defines it (rules 20.8 and 20.19).
+#![tactic(auto)]
+
 mod numbers;
 mod rows;
 

@@ -11,6 +11,7 @@ use session_held::Session;
 
 // The slot of a kept number; for a number from the base on also its slot for accepted mark, n and m, and these three.
 #[derive(Drop)]
+#[derive(Clone, Copy)]
 pub struct Row {
     pub slot: usize,
     pub heard: usize,

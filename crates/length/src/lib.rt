@@ -1,5 +1,7 @@
 // What a length or count is (rules 3.1 to 3.4). One definition serves packets, spares, messages and counts (rule 28.17). The refusal type
 // is defined here too, below every crate that refuses.
+#![tactic(auto)]
+
 ghost use Rattle.length.specs.Promise.{Octet, RefusalMade, RefusalPlaced, RefusalTold};
 ghost use Rattle.std.specs.Prelude.{◌≡◌, ◌+◌, ◌^◌, ◌<◌};
 ghost use Rattle.length.specs.Refusals.{further as is_further};
@@ -10,6 +12,7 @@ ghost use Rattle.length.specs.Length.{within as is_within};
 // begins, counted from the start of the octets that were read (rule 2.27), and 0 if the refusal is not met while reading (rule 2.30).
 // A refusal is made only here, and passed up whole or by `further`.
 #[derive(Drop)]
+#[derive(Clone, Copy)]
 pub struct Refusal {
     pub number: u8,
     pub place: usize,

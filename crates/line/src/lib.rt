@@ -1,4 +1,6 @@
 // The lines of the program (rules 18.1 to 18.12), and their limits.
+#![tactic(auto)]
+
 mod feed;
 mod steps;
 

@@ -1,6 +1,8 @@
 // The program for tuning spares against parity (rules 19.1 to 19.3 and 19.8). It reads a trace from standard input as `receive` reads it.
 // For each number that leaves it writes the kind and the datagram that filled it, as the release returns them; at the end it writes how
 // many numbers spares and parity saved, and from how far ahead.
+#![tactic(auto)]
+
 mod saved;
 mod text;
 

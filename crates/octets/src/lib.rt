@@ -1,6 +1,8 @@
 // The exclusive or of two runs of octets: eight octets at a time, as one word of 64 bits, and the tail singly (rule 30.9). The receiver's
 // repairs and the sender's messages share it. These functions are for callers inside the library: they require that the octets are there.
 // `specs/` also defines lists given by place.
+#![tactic(auto)]
+
 ghost use Rattle.std.specs.Prelude.{◌≡◌, ◌+◌, ◌*◌, ◌/◌, ◌≤◌, ◌<◌, length};
 ghost use Rattle.octets.specs.Words.{Reads, Spells, AddsTo, both};
 

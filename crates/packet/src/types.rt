@@ -7,6 +7,7 @@ use length::Refusal;
 
 // A packet is an indicator or data (rule 6.1).
 #[derive(Drop)]
+#[derive(Clone, Copy)]
 pub enum PacketKind {
     Indicator,
     Data,
@@ -15,6 +16,7 @@ pub enum PacketKind {
 // An ENUMERATED type of the ASN.1: whether it has an extension mark `...`, how many bits a value before the mark has, how many values there
 // are before it, and how many were added after it.
 #[derive(Drop)]
+#[derive(Clone, Copy)]
 pub struct Enumerated {
     pub extensible: bool,
     pub width: usize,
@@ -24,6 +26,7 @@ pub struct Enumerated {
 
 // The edition of the ASN.1 that a caller names: that of 06/98, or that of 2002 (rule 7.1).
 #[derive(Drop)]
+#[derive(Clone, Copy)]
 pub enum Named {
     Old,
     New,
@@ -38,6 +41,7 @@ pub enum Choice {
 
 // How a packet came: received or spare, it ends at its last field (rule 6.11); repaired, it may go on with zeros (rule 6.12).
 #[derive(Drop)]
+#[derive(Clone, Copy)]
 pub enum Ending {
     Whole,
     Repaired,
@@ -47,6 +51,7 @@ pub enum Ending {
 // (rule 6.27). A C program uses the same layout. `kind` is the type: `type` is a word of the language.
 #[repr(C)]
 #[derive(Drop)]
+#[derive(Clone, Copy)]
 pub struct Field {
     pub kind: u8,
     pub start: usize,

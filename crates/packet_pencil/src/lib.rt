@@ -1,4 +1,6 @@
 // The second packet reader, to be compared with the ASN.1: one bit at a time, one function for each production of Annex A (rule 8.1).
+#![tactic(auto)]
+
 mod bits;
 mod fields;
 mod items;

@@ -1,4 +1,6 @@
 // The packet reader, as `packet` defines it (rules 6.1 to 6.17 and 7.1 to 7.11).
+#![tactic(auto)]
+
 mod items;
 mod places;
 mod reader;

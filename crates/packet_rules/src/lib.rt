@@ -1,4 +1,6 @@
 // What a packet may hold, to the readers, the writer and the joiner: an edition's tables (rules 6.3, 6.6, 6.10, 7.2 to 7.4 and 7.10).
+#![tactic(auto)]
+
 ghost use Rattle.std.specs.Prelude.{◌≡◌};
 ghost use Rattle.packet.specs.Edition as edition;
 ghost use Rattle.packet.specs.Edition.{edition_of, choice_of, carries, allows};

@@ -1,5 +1,7 @@
 // Standard input line by line, for the programs that answer each line by itself; only a line feed ends a line (rule 18.9). These programs
 // promise safety and termination only.
+#![tactic(auto)]
+
 use libc::STDIN_FILENO;
 
 // How many characters are read at a time.

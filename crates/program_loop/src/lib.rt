@@ -1,6 +1,8 @@
 // The program from any session within its ranges on: it reads lines of hexadecimal from standard input, one datagram a line, and writes the
 // results to standard output, in large blocks (rules 18.1, 18.12 and 18.13). What a block writes is proved in `line_code`; this crate only
 // reads, calls it and writes.
+#![tactic(auto)]
+
 ghost use Rattle.std.specs.Prelude.{◌≡◌, ◌+◌, ◌%◌, ◌^◌, ◌≤◌, length};
 ghost use Rattle.session_held.specs.Table.{lent, view_in};
 ghost use Rattle.session_held.specs.Laid.{InRanges};

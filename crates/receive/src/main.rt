@@ -1,5 +1,7 @@
 // The program: lines of hexadecimal from standard input, one datagram a line, and its results to standard output (rule 18.1). How they are
 // read and written is proved in `program_loop`, from any session on; this program begins with a fresh one.
+#![tactic(auto)]
+
 ghost use Rattle.receive.specs.Promise.{Receives};
 
 use program_loop::Served;

@@ -1,6 +1,8 @@
 // `replay TRACE NUMBER..` plays a recorded trace again without the datagrams of these numbers. It writes the lines to standard output and
 // the four counts to standard error (rules 21.1 to 21.5 and 21.8). The trace is read block by block and may have any length;
 // `trace_replay_code::replay_line` decides whether a line is dropped, and plays it otherwise.
+#![tactic(auto)]
+
 mod arguments;
 mod playing;
 mod taking;

@@ -1,4 +1,6 @@
 // The sending session as the code stores it, and a fresh one (rules 1.14, 15.1 and 15.16).
+#![tactic(auto)]
+
 ghost use Rattle.std.specs.Prelude.{◌≡◌};
 ghost use Rattle.session.specs.View.{session_limit};
 ghost use Rattle.sender.specs.Sending.{history_kept};
@@ -11,6 +13,7 @@ use session_held::Session;
 
 // Beside its packet a datagram carries k spares, or m messages over n packets each (rule 15.2).
 #[derive(Drop)]
+#[derive(Clone, Copy)]
 pub enum Settings {
     Spares(u8),
     Parity { n: u8, m: u8 },
@@ -19,6 +22,7 @@ pub enum Settings {
 // How many packets were sent, and the sizes and octets of the last 32 (rule 15.16). A number's slot is the number modulo 32, so
 // nothing moves when a packet is sent.
 #[derive(Drop)]
+#[derive(Clone, Copy)]
 pub struct Sender {
     pub sent: u32,
     pub sizes: [u16; Sender::HISTORY],

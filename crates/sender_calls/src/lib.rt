@@ -1,4 +1,6 @@
 // The calls on a sending session (rules 15.2, 15.8, 15.11 and 15.13), as `sender` defines them.
+#![tactic(auto)]
+
 mod inner;
 
 ghost use Rattle.sender.specs.Promise.{RangesTold, Sends};

@@ -2,6 +2,6 @@ mod Called
 mod Outcomes
 mod Seen
 pub mod Claims
-mod Solved
+mod SolvedLaws
 pub mod SolverClaims
 pub mod Laws

@@ -28,7 +28,7 @@ use Rattle.session_calls.specs.SolverClaims.{HasSolution, HasNone, OctetSession,
 use Rattle.session_calls.specs.declared.solver.AfterSolve.{AfterSolve}
 use Rattle.session_calls.proofs.Claims.{after-ranges}
 use Rattle.session_calls.proofs.Outcomes.{seen_same, after_same}
-use Rattle.session_calls.proofs.Solved.{view-sound}
+use Rattle.session_calls.proofs.SolvedLaws.{view-sound}
 
 -- ---- the three outcomes
 pub data CameTo (s : Session) (r : AfterSolve) : Type 0 where

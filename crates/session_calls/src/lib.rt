@@ -1,6 +1,8 @@
 // The public calls of a receiving session: each checks the session's ranges once (rule 13.12) and then calls the core, which requires them.
 // A call takes the session by value and returns it with the answer. A refusal returns the session unchanged and does not touch the caller's
 // buffer (rule 2.25).
+#![tactic(auto)]
+
 mod receiver;
 mod solver;
 

@@ -1,6 +1,8 @@
 // Whether a session is within its ranges (rules 13.1 to 13.11): refusal 17 is given exactly if it is not (rule 13.12). Kept numbers are
 // checked slot by slot, and what is held by distance from the base. These functions serve callers inside this repository: they require the
 // lengths of the table and the stores.
+#![tactic(auto)]
+
 mod slots;
 
 ghost use Rattle.std.specs.Prelude.{◌≡◌, ◌%◌, ◌&&◌, length, ◌==◌, nat_le};

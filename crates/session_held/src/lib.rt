@@ -1,6 +1,8 @@
 // The receiving session in memory, as the calls inside the session receive it: base and counts by value, a table of numbers, and two stores
 // of octets, with one slot for each kept packet and one for each held message. A number's slot is the number modulo the count of slots, so
 // nothing moves when the base moves on (rule 9.13).
+#![tactic(auto)]
+
 mod fresh;
 mod table;
 
@@ -17,6 +19,7 @@ pub use table::{
 
 // The kind of a number that leaves, as an answer names it. In the table a state is encoded as a number.
 #[derive(Drop)]
+#[derive(Clone, Copy)]
 pub enum ReleaseKind {
     Received,
     Spare,
@@ -26,6 +29,7 @@ pub enum ReleaseKind {
 
 // How many numbers left since the start, by kind (rules 9.10 and 9.11).
 #[derive(Drop)]
+#[derive(Clone, Copy)]
 pub struct Counts {
     pub received: u32,
     pub spare: u32,
@@ -34,6 +38,7 @@ pub struct Counts {
 }
 
 #[derive(Drop)]
+#[derive(Clone, Copy)]
 pub struct Session {
     pub base: u16,
     pub counts: Counts,

@@ -1,5 +1,7 @@
 // Offer, over the memory of a session (rules 10.1 to 10.6). It serves callers inside this repository: it requires that the session is
 // within its ranges, which the public calls check (refusal 17), and keeps it so. Base and counts are unchanged.
+#![tactic(auto)]
+
 mod kept;
 
 ghost use Rattle.std.specs.Prelude.{◌≡◌, ◌≤◌, length};

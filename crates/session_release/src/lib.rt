@@ -1,6 +1,8 @@
 // Release, over the memory of a session (rules 12.2 to 12.9). It serves callers inside this repository: it requires that the session is
 // within its ranges, which the public call checks (refusal 17), and keeps it so. It writes only the slots of the number that leaves and of
 // the one that comes into view.
+#![tactic(auto)]
+
 mod counts;
 
 ghost use Rattle.std.specs.Prelude.{◌≡◌, ◌+◌, ◌<◌, ◌≤◌, length};
@@ -20,6 +22,7 @@ use session_held::{Counts, ReleaseKind, Session};
 // What a release returns: the kind, number and note of what left and the size of its packet, note and size 0 if it is lost (rules 12.2 and
 // 12.4); or the refusal.
 #[derive(Drop)]
+#[derive(Clone, Copy)]
 pub enum Released {
     Number {
         kind: ReleaseKind,

@@ -1,5 +1,7 @@
 // Repair of a receiving session (rules 11.1 to 11.4). These functions serve callers inside this repository: they require that the session
 // is within its ranges.
+#![tactic(auto)]
+
 mod searching;
 
 ghost use Rattle.std.specs.Prelude.{◌≡◌, ◌<◌, ◌≤◌, true, length};

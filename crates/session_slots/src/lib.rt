@@ -1,6 +1,8 @@
 // A store is a run of octets cut into slots of a packet's length. The receiving session keeps its packets in one and its messages in
 // another, and the sending session keeps its history in one. These functions serve callers inside this repository: they require that the
 // slot exists. Those that need no slot work on any run of octets, and serve a joiner's storage too.
+#![tactic(auto)]
+
 ghost use Rattle.std.specs.Prelude.{◌≡◌, ◌≤◌, length, drop, ◌++◌};
 ghost use Rattle.datagram.specs.Sizes.{packet_limit};
 ghost use Rattle.session_slots.specs.Store.{added, pasted, zeros, zeros_from, zeros_past, mask_over, mask, part, HasSlot};

@@ -1,6 +1,8 @@
 // Elimination over a table of 128 rows (rules 1.16 and 30.6). A row has some of 64 columns, and is the exclusive or of some of 128
 // equations. Elimination takes the table by value, swaps rows and combines them. These functions are for callers inside this repository:
 // they require that a place is in the table.
+#![tactic(auto)]
+
 mod masks;
 
 ghost use Rattle.std.specs.Prelude.{◌≡◌, ◌≤◌, ◌<◌};
@@ -12,6 +14,7 @@ pub use masks::{Mask, first_place, lone_place, one, places_back};
 
 // A sum of equations: its columns, and the equations in it, those below 64 in `low` and the others in `high`.
 #[derive(Drop)]
+#[derive(Clone, Copy)]
 pub struct Row {
     pub mask: u64,
     pub low: u64,

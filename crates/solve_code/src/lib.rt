@@ -1,6 +1,8 @@
 // Solving (rules 14.1 to 14.8), for losses that no single message can repair: what the equations ask for, whether some octets satisfy them,
 // and the fills, over the memory of a session. These functions are for callers inside this repository: they require a session within its
 // ranges, which the public call checks (refusal 17, rule 14.7), and keep it within them.
+#![tactic(auto)]
+
 mod equations;
 mod sides;
 

@@ -1,4 +1,6 @@
 // What comparing two traces returns, the limit of a trace, and the codes of an entry (rule 1.15 and rules 22.2 to 22.7).
+#![tactic(auto)]
+
 ghost use Rattle.std.specs.Prelude.{◌≡◌};
 ghost use Rattle.trace_compare.specs.Entries.{only_first, only_second, packet_differs, spares_differ, parity_differs};
 ghost use Rattle.trace_compare.specs.Traces.{lines_limit};

@@ -1,4 +1,6 @@
 // What a replay returns (rules 21.1 to 21.6).
+#![tactic(auto)]
+
 use length::Refusal;
 use session_held::Counts;
 

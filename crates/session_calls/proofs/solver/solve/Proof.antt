@@ -1,6 +1,6 @@
 -- `session_calls::solve` meets its contract: outside the ranges 17 and the very session, within them what the core owes. Assumes nothing.
 use Rattle.session_calls.proofs.Called.{within-session}
-use Rattle.session_calls.proofs.Solved.{solves}
+use Rattle.session_calls.proofs.SolvedLaws.{solves}
 use borrow.Author.Rules.{rules}
 use Rattle.session_calls.proofs.solver.solve.Statement.{statement}
 use Rattle.session_calls.proofs.solver.solve.Tie as tie
