@@ -1,0 +1,7 @@
+-- `tbx_core_release` meets its contract. Assumes nothing.
+use Rattle.std.proofs.Common.{rules}
+use Rattle.host.proofs.Receiving.{release-hosted}
+use Rattle.host.proofs.receiver.tbx_core_release.Goals as goal
+
+pub returns : goal.returns
+returns c = release-hosted (search rules) c.release_core-done.ensures c.number_told-left.ensures

@@ -1,0 +1,11 @@
+-- `image_reader::upper_run` meets its contract: upper-case digits alone stand before the place, which goes on by many each turn. Assumes
+-- nothing.
+use Rattle.std.proofs.Common.{◌-◌, length}
+use Rattle.image_reader.specs.Text.{UpperTo}
+use Rattle.image_reader.proofs.text.upper_run.Given as goal
+
+abbrev pub invariant-loop-at : goal.invariant-loop-at
+invariant-loop-at l = UpperTo l.s l.at
+
+abbrev pub decreases-loop-at : goal.decreases-loop-at
+decreases-loop-at l = length l.s - l.at

@@ -1,0 +1,27 @@
+-- `image_writer::put_rows` meets its contract: the lines before place p are laid. Assumes nothing.
+use Prim.Native.Nat.{◌-◌}
+use Rattle.image_writer.proofs.Laying.{told-room, told-put}
+use Rattle.image_writer.proofs.Turns.{going_start, going-room, going-turn, going_done}
+use Rattle.image_writer.proofs.numbers.put_rows.Goals as goal
+
+pub loop-p-init : goal.loop-p-init
+loop-p-init c = going_start c.requires.room
+
+pub put_row-end-requires : goal.put_row-end-requires
+put_row-end-requires c =
+    let pre = c.requires in
+    let room = going-room pre.1.1.1 c.loop-p.invariant c.loop-p-test.true in
+    let row = c.row_at-row.ensures in
+    (pre.0, (pre.1.0, (pre.1.1.0, (row.fits, told-room row c.args.octets.now c.args.messages.now room))))
+
+pub loop-p-preserved : goal.loop-p-preserved
+loop-p-preserved c =
+    let args = c.args in
+    going-turn c.loop-p.invariant c.loop-p-test.true
+    (told-put c.row_at-row.ensures args.octets.now args.messages.now c.put_row-end.ensures)
+
+pub shape_of-out : goal.shape_of-out
+shape_of-out c = c.loop-p.invariant.long
+
+pub returns : goal.returns
+returns c = going_done c.loop-p.invariant c.loop-p-test.false

@@ -1,0 +1,10 @@
+-- `packet_pencil::items::field_type` meets its contract. Each answer is a law of `ReadValues`. Assumes nothing.
+use Rattle.std.proofs.Common.{rules}
+use Rattle.packet_pencil.proofs.ReadValues.{editions}
+use Rattle.packet_pencil.proofs.items.field_type.Goals as goal
+
+pub enumerated-requires : goal.enumerated-requires
+enumerated-requires c = search (rules, editions)
+
+pub returns : goal.returns
+returns c = search editions

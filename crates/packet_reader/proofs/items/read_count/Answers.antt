@@ -1,0 +1,21 @@
+-- `packet_reader::read_count` meets its contract. Each answer is a law of `ReadItems`. Assumes nothing.
+use Rattle.packet_reader.proofs.ReadItems.{counts}
+use Rattle.packet_reader.proofs.items.read_count.Goals as goal
+
+pub returns-then-not-present : goal.returns-then-not-present
+returns-then-not-present c = search counts
+
+pub further-requires : goal.further-requires
+further-requires c = search counts
+
+pub returns-in_default : goal.returns-in_default
+returns-in_default c = search counts
+
+pub overflow_add-octets : goal.overflow_add-octets
+overflow_add-octets c = search counts
+
+pub overflow_mul-next : goal.overflow_mul-next
+overflow_mul-next c = search counts
+
+pub returns : goal.returns
+returns c = search counts

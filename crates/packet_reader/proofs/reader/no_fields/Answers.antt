@@ -1,0 +1,6 @@
+-- `packet_reader::no_fields` meets its contract. It is the definition's list. Assumes nothing.
+use mathlib.Core.Path.{refl}
+use Rattle.packet_reader.proofs.reader.no_fields.Goals as goal
+
+pub returns : goal.returns
+returns c = refl

@@ -1,0 +1,13 @@
+-- `packet_writer::all_types` meets its contract. The loop's invariant: what is left decides. The measure is how many
+-- are left. Assumes nothing.
+use Prim.Native.Nat.{◌-◌}
+use lib.ListN.{length}
+use lib.Dec.{leb}
+use Rattle.packet_laws.proofs.Laws.{EveryLeft}
+use Rattle.packet_writer.proofs.sizes.all_types.Given as goal
+
+abbrev pub invariant-loop-i : goal.invariant-loop-i
+invariant-loop-i l = EveryLeft (λ t. leb t l.last) l.types l.i
+
+abbrev pub decreases-loop-i : goal.decreases-loop-i
+decreases-loop-i l = length l.types - l.i

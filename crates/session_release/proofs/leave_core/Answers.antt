@@ -1,0 +1,32 @@
+-- `session_release::leave_core` meets its contract. Assumes nothing.
+use Rattle.session_release.proofs.Release.{release-16, release-10, release-13, release-left, may-leave, not-blank}
+use Rattle.session_release.proofs.leave_core.Goals as goal
+
+pub returns-then-all_passed : goal.returns-then-all_passed
+returns-then-all_passed c = release-16 c.requires c.all_passed.ensures c.if-all_passed.true c.release_refused.ensures
+
+pub returns-then-waits : goal.returns-then-waits
+returns-then-waits c =
+    release-10 c.requires c.all_passed.ensures c.if-all_passed.false c.kept_slot-slot.ensures
+    c.state_at-state.ensures c.if-waits.true c.release_refused-then-waits.ensures
+
+pub returns-then-room-size : goal.returns-then-room-size
+returns-then-room-size c =
+    release-13 c.requires c.all_passed.ensures c.if-all_passed.false c.kept_slot-slot.ensures
+    c.state_at-state.ensures c.if-waits.false c.size_at-size.ensures c.if-room-size.true c.release_refused-then-room-size.ensures
+
+pub kind_of-kind-requires : goal.kind_of-kind-requires
+kind_of-kind-requires c = not-blank c.requires c.kept_slot-slot.ensures c.state_at-state.ensures
+
+pub move_on-moved-requires : goal.move_on-moved-requires
+move_on-moved-requires c = (
+  c.requires,
+  may-leave c.requires c.all_passed.ensures c.if-all_passed.false c.kept_slot-slot.ensures c.state_at-state.ensures
+      c.kind_of-kind.ensures,
+)
+
+pub returns : goal.returns
+returns c =
+    release-left c.requires c.all_passed.ensures c.if-all_passed.false c.kept_slot-slot.ensures
+    c.state_at-state.ensures c.if-waits.false c.size_at-size.ensures c.if-room-size.false c.note_at-note.ensures
+    c.kind_of-kind.ensures c.move_on-moved.ensures

@@ -1,0 +1,17 @@
+-- `session_release::move_on` meets its contract. Assumes nothing.
+use Rattle.std.proofs.Common.{rules}
+use Rattle.session_release.proofs.Moving.{few-leave, base-moved}
+use Rattle.session_release.proofs.move_on.Goals as goal
+
+pub count_one-moved-requires : goal.count_one-moved-requires
+count_one-moved-requires c = c.requires.may_move_on.left
+
+pub free_messages-requires : goal.free_messages-requires
+free_messages-requires c = (search rules, (search rules, few-leave c.requires.in_ranges c.heard_slot-leaves.ensures c.m_at-m.ensures))
+
+pub returns : goal.returns
+returns c =
+    base-moved c.requires.in_ranges c.requires.may_move_on c.count_one-moved.ensures c.wide-wide.ensures
+    c.heard_slot-leaves.ensures c.m_at-m.ensures c.clear.ensures c.free_messages.ensures
+    c.set_kept.ensures c.drop_heard.ensures
+    c.number_after-after.ensures

@@ -1,0 +1,55 @@
+-- `session_repair::fill` meets its contract. Assumes nothing.
+use Rattle.std.proofs.Common.{arith, length-take}
+use Rattle.session_repair.proofs.Fills.{slot-fits, index-fits, size_fits, filled}
+use Rattle.session_repair.proofs.fill.Goals as goal
+
+pub size_of-size-requires : goal.size_of-size-requires
+size_of-size-requires c = (c.requires.may_mend.within.laid.long, index-fits c.requires.may_mend.within c.requires.points c.requires.index_value)
+
+pub asked-sum-requires : goal.asked-sum-requires
+asked-sum-requires c = (
+  c.requires.may_mend,
+  (
+    c.requires.points.near,
+    (
+      index-fits c.requires.may_mend.within c.requires.points c.requires.index_value,
+      (c.requires.points.low, size_fits c.requires.may_mend.within c.requires.points c.requires.index_value c.type_size.ensures),
+    ),
+  ),
+)
+
+pub slice_bounds-sum-end : goal.slice_bounds-sum-end
+slice_bounds-sum-end c =
+    omega (
+      arith,
+      size_fits c.requires.may_mend.within c.requires.points c.requires.index_value
+          c.type_size.ensures,
+      c.asked-sum.ensures.long,
+    )
+
+pub slice_bounds-put-end : goal.slice_bounds-put-end
+slice_bounds-put-end c =
+    let fits = size_fits c.requires.may_mend.within c.requires.points c.requires.index_value c.type_size.ensures in
+    omega (arith, fits, length-take c.type_size.result c.asked-sum.result, c.asked-sum.ensures.long)
+
+pub put-requires : goal.put-requires
+put-requires c =
+    let fits = size_fits c.requires.may_mend.within c.requires.points c.requires.index_value c.type_size.ensures in (
+      omega (arith, slot-fits c.requires.may_mend.within c.requires.points c.requires.index_value, c.requires.may_mend.within.laid.octets),
+      omega (arith, fits, length-take c.type_size.result c.asked-sum.result),
+    )
+
+pub narrow-length-requires : goal.narrow-length-requires
+narrow-length-requires c = size_fits c.requires.may_mend.within c.requires.points c.requires.index_value c.type_size.ensures
+
+pub set_kept-requires : goal.set_kept-requires
+set_kept-requires c = (c.requires.may_mend.within.laid.long, slot-fits c.requires.may_mend.within c.requires.points c.requires.index_value)
+
+pub returns : goal.returns
+returns c =
+    record {
+      fills =
+          λ counts w.
+          filled w c.requires.points c.requires.index_value c.asked-sum.ensures c.type_size.ensures c.put.ensures
+          c.narrow-length.ensures c.set_kept.ensures;
+    }

@@ -1,0 +1,9 @@
+-- `solve_code::row_fits` meets its contract. Assumes nothing.
+use Rattle.solve_code.proofs.Fitting.{row-columns, row-empty}
+use Rattle.solve_code.proofs.row_fits.Goals as goal
+
+pub returns-then-first-lt-PLACES : goal.returns-then-first-lt-PLACES
+returns-then-first-lt-PLACES c = search row-columns
+
+pub returns : goal.returns
+returns c = search row-empty

@@ -1,0 +1,28 @@
+-- `solve_code::sides::sides` meets its contract. The loop's invariant: what the first e equations ask for is laid. The measure is the
+-- equations left. Assumes nothing.
+use Rattle.std.proofs.Common.{ℕ, ◌-◌, arith}
+use lib.ListN.{length-replicate}
+use Rattle.session_held.specs.Slots.{message_octets}
+use Rattle.solve_code.proofs.Siding.{sides-start, slot-there, sides-turn, sides-done}
+use Rattle.solve_code.proofs.sides.sides.Goals as goal
+
+pub loop-e-init : goal.loop-e-init
+loop-e-init c = sides-start _ _ _ _ (length-replicate {A = ℕ} message_octets 0)
+
+pub side-one-requires : goal.side-one-requires
+side-one-requires c = (c.requires, c.loop-e-test.true)
+
+pub slice_bounds-put-end : goal.slice_bounds-put-end
+slice_bounds-put-end c = let so = c.loop-e.invariant in omega (arith, so.long)
+
+pub slice_bounds-put-end-in-loop-e : goal.slice_bounds-put-end-in-loop-e
+slice_bounds-put-end-in-loop-e c = let told = c.side-one.ensures in omega (arith, told.long)
+
+pub put-requires : goal.put-requires
+put-requires c = (slot-there c.loop-e.invariant c.loop-e-test.true, omega (arith, c.side-one.ensures.long))
+
+pub loop-e-preserved : goal.loop-e-preserved
+loop-e-preserved c = sides-turn c.loop-e.invariant c.loop-e-test.true c.side-one.ensures c.put.ensures
+
+pub returns : goal.returns
+returns c = search sides-done
