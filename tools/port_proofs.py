@@ -21,7 +21,7 @@ def split_decls(text):
     lines = text.split("\n")
     blocks, at = [], []
     for l in lines:
-        starts = l and not l[0].isspace() and not l.startswith(("--", "unfolding"))
+        starts = l and not l[0].isspace() and l[0] not in ")]}" and not l.startswith(("--", "unfolding"))
         if starts and at and not all(x.startswith("--") or not x for x in at):
             # comments right above go with the new one
             tail = []
@@ -277,6 +277,7 @@ def turn(path, module, fn):
     if answers or helpers:
         parts = list(helpers)
         for new, body in answers:
+            body = re.sub(r"\n(?=\S)", "\n    ", body)
             parts.append(f"pub {new} : goal.{new}\n{new} c =" + ("\n    " if "\n" in body else " ") + body)
         text2 = "\n\n".join(parts)
         head = used(imports, text2)

@@ -5,8 +5,6 @@ use native.Mathlib.Omega.{arith}
 use Rattle.datagram_reader.proofs.ReadSteps.{parities}
 use Rattle.datagram_reader.proofs.reader.parity_at.Goals as goal
 
-)
-
 pub returns-in_default : goal.returns-in_default
 returns-in_default c = search parities
 
@@ -22,13 +20,14 @@ returns-in_default-found c = search parities
 pub overflow_add-first : goal.overflow_add-first
 overflow_add-first c =
     omega (
-  arith,
-  length-ends c.length_at-found.ensures c.in-Value-found.is
-      (omega (
-        arith,
-        octet-ends c.octet_at-covered.ensures
-            c.in-Value-covered.is,
-      )),
+      arith,
+      length-ends c.length_at-found.ensures c.in-Value-found.is
+          (omega (
+            arith,
+            octet-ends c.octet_at-covered.ensures
+                c.in-Value-covered.is,
+          )),
+    )
 
 pub returns : goal.returns
 returns c = search parities

@@ -5,8 +5,6 @@ use Rattle.datagram_reader.proofs.ReadSteps.{item-ends}
 use Rattle.datagram_reader.proofs.ReadWhole.{readings, extra-asked}
 use Rattle.datagram_reader.proofs.reader.read.Goals as goal
 
-)
-
 pub returns-then-octets-gt-LIMIT : goal.returns-then-octets-gt-LIMIT
 returns-then-octets-gt-LIMIT c = search readings
 
@@ -16,8 +14,9 @@ returns-then-octets-lt2 c = search readings
 pub overflow_add-at : goal.overflow_add-at
 overflow_add-at c =
     omega (
-  arith,
-  item-ends c.item_at.ensures c.in-Found.is (search rules),
+      arith,
+      item-ends c.item_at.ensures c.in-Found.is (search rules),
+    )
 
 pub whole_of-requires : goal.whole_of-requires
 whole_of-requires c = search extra-asked
