@@ -2,28 +2,33 @@
 // promise safety and termination only.
 #![tactic(auto)]
 
-use libc::STDIN_FILENO;
+use std::io::Read;
 
 // How many characters are read at a time.
 pub const BLOCK: usize = 65536;
 
 // The next character of the input. Of the block, `at` characters are taken and `end` were read; `end` is 0 once the input ended or a read
 // failed (rule 18.13).
-fn character(block: &mut [u8; BLOCK], at: &mut usize, end: &mut usize) -> u8 {
+fn character<R: Read>(
+    input: &mut R,
+    block: &mut [u8; BLOCK],
+    at: &mut usize,
+    end: &mut usize,
+) -> u8 {
     let i = *at;
     if i < *end {
         *at = i + 1;
         return block[i % BLOCK];
     }
-    let got = libc::read(STDIN_FILENO, block);
-    *end = io::count(got, block);
+    *end = input.read(block).unwrap_or(0);
     *at = 1;
     block[0]
 }
 
 // Reads one line without its line feed to the front of line, and returns how many characters it has; of a line that is too long, as many as
 // there is room for. Then `end` is 0 if the input ended.
-pub fn read_line(
+pub fn read_line<R: Read>(
+    input: &mut R,
     block: &mut [u8; BLOCK],
     at: &mut usize,
     end: &mut usize,
@@ -33,7 +38,7 @@ pub fn read_line(
     let mut turns = u64::MAX;
     while turns > 0 {
         turns -= 1;
-        let next = character(block, at, end);
+        let next = character(input, block, at, end);
         if (*end == 0) | (next == b'\n') {
             return size;
         }
