@@ -65,7 +65,8 @@ def top_tuple(body):
         elif ch == "," and depth == 1:
             parts.append(body[last:i].strip())
             last = i + 1
-    parts.append(body[last:-1].strip())
+    if body[last:-1].strip():
+        parts.append(body[last:-1].strip())
     return parts if len(parts) > 1 else None
 
 
@@ -83,12 +84,37 @@ def flat_tuple(body, n):
     return None
 
 
+def lets_of(body):
+    """The leading 'let's of a term, and what follows them."""
+    at = 0
+    while True:
+        m = re.compile(r"\s*let\b").match(body, at)
+        if not m:
+            return body[:at], body[at:]
+        depth, i, inside = 0, m.end(), 1
+        while inside:
+            w = re.compile(r"[(\[{]|[)\]}]|\blet\b|(?<![\w'-])in(?![\w'-])").search(body, i)
+            if not w:
+                return body[:at], body[at:]
+            if w.group(0) in "([{":
+                depth += 1
+            elif w.group(0) in ")]}":
+                depth -= 1
+            elif depth == 0:
+                inside += 1 if w.group(0) == "let" else -1
+            i = w.end()
+        at = i
+
+
 class Function:
     def __init__(self, v):
         self.v = v
         self.needs = {}
         for (old, new), clause in zip(v["needs"], v["clauses"] + [None] * len(v["needs"])):
             self.needs.setdefault(norm(old), (new, clause))
+        for (old, new), clause in zip(v["needs"], v["clauses"] + [None] * len(v["needs"])):
+            self.needs.setdefault(norm(new), (new, clause))
+        self.callees = {norm(old): callee for place, parent, (old, new), callee, more in v["places"] if callee}
         self.steps, self.extra = {}, {}
         for place, parent, (old, new), callee, more in v["places"]:
             if old:
@@ -170,6 +196,24 @@ class Function:
         for a in aliases - {"c"}:
             text = re.sub(r"(?<![\w'.\-])" + re.escape(a) + r"(?![\w'\-])", "c", text)
         return text
+
+
+def requirements(top):
+    """The names of the clauses that each function of the repository requires, where it has several."""
+    found = {}
+    for folder, dirs, files in os.walk(top):
+        dirs[:] = [d for d in dirs if d not in ("out", "must-fail", "specs", "proofs")]
+        for f in files:
+            if f.endswith(".rt"):
+                crate = folder[len(top) :].strip("/").split("/")[0]
+                text = open(os.path.join(folder, f), encoding="utf-8").read()
+                for m in re.finditer(r"\bfn (\w+)[^{;]*?(?=\n\s*(?:requires|ensures)|\{|;)", text):
+                    end = re.compile(r"\bfn \w").search(text, m.end())
+                    part = text[m.end() : end.start() if end else len(text)]
+                    names = re.findall(r"^\s*requires (\w+) \{", part, re.M)
+                    if len(names) > 1:
+                        found[(crate, m.group(1))] = names
+    return found
 
 
 def used(imports, text):
@@ -255,15 +299,27 @@ def turn(path, module, fn):
                 said.append(f"{m.group(1)}: no goal of that name")
                 continue
             new, clauses = hit
+            if not clauses and old.endswith("_requires") or re.search(r"_requires_\d+$", old):
+                places = [callee for step, callee in fn.callees.items() if re.fullmatch(re.escape(re.sub(r"_requires(_\d+)?$", "", old)) + r"\d*", step)]
+                for callee in places:
+                    clauses = clauses or fn.required.get((callee.split("::")[0], callee.split("::")[-1]))
+            opens = re.search(r"^unfolding [^\n]*$", code, re.M)
+            opens = opens.group(0) if opens else ""
             if clauses:
                 parts = flat_tuple(body, len(clauses))
                 if parts:
                     for cl, p in zip(clauses, parts):
                         p = fn.body(p)
                         if p != "search rules":
-                            answers.append((f"{new}-clause-{cl}", p))
+                            answers.append((f"{new}-clause-{cl}", p, opens))
                     continue
-            answers.append((new, fn.body(body)))
+                lets, rest = lets_of(body)
+                parts = flat_tuple(rest, len(clauses))
+                if lets and parts:
+                    fields = "; ".join(f"{cl} = {p}" for cl, p in zip(clauses, parts))
+                    answers.append((new, fn.body(lets.rstrip() + " record { " + fields + " }"), opens))
+                    continue
+            answers.append((new, fn.body(body), opens))
             continue
         helpers.append(code.strip("\n"))
     folder = os.path.dirname(path)
@@ -276,9 +332,9 @@ def turn(path, module, fn):
         done.append("Invariants")
     if answers or helpers:
         parts = list(helpers)
-        for new, body in answers:
+        for new, body, opens in answers:
             body = re.sub(r"\n(?=\S)", "\n    ", body)
-            parts.append(f"pub {new} : goal.{new}\n{new} c =" + ("\n    " if "\n" in body else " ") + body)
+            parts.append(f"pub {new} : goal.{new}\n" + (opens + "\n" if opens else "") + f"{new} c =" + ("\n    " if "\n" in body else " ") + body)
         text2 = "\n\n".join(parts)
         head = used(imports, text2)
         if re.search(r"(?<![\w'.\-])rules(?![\w'\-])", text2) and not any(re.search(r"[{, ]rules[,}]", h) for h in head):
@@ -292,6 +348,7 @@ def turn(path, module, fn):
 
 def main():
     names = json.load(open(sys.argv[1], encoding="utf-8"))
+    required = requirements("crates")
     crate = sys.argv[2]
     top = os.path.join("crates", crate, "proofs")
     for folder, dirs, files in os.walk(top):
@@ -303,7 +360,9 @@ def main():
         if key not in names:
             print(f"{crate} {rel}: no names")
             continue
-        done, said = turn(os.path.join(folder, "Proof.antt"), f"Rattle.{crate}.proofs.{rel}", Function(names[key]))
+        function = Function(names[key])
+        function.required = required
+        done, said = turn(os.path.join(folder, "Proof.antt"), f"Rattle.{crate}.proofs.{rel}", function)
         for s in said:
             print(f"{crate} {rel}: {s}")
 

@@ -8,6 +8,11 @@ overflow_add-to c =
     let inside = feed-inside c.turn_of-event.ensures c.in-Field.is in
     omega arith
 
+pub slice_bounds-field-end : goal.slice_bounds-field-end
+slice_bounds-field-end c =
+    let inside = feed-inside c.turn_of-event.ensures c.in-Field.is in
+    omega arith
+
 pub returns-in-Field : goal.returns-in-Field
 returns-in-Field c = search feedings
 

@@ -5,8 +5,11 @@ use borrow.Author.Tests.{not-true, not-false}
 use Rattle.image_reader.proofs.Restoring.{cleared-zeros, read-misshapen, read-outside, read-restored}
 use Rattle.image_reader.proofs.read_edition.Goals as goal
 
-pub read_core-found-requires : goal.read_core-found-requires
-read_core-found-requires c = (omega arith, cleared-zeros)
+pub read_core-found-requires-clause-limit_le_packet_limit : goal.read_core-found-requires-clause-limit_le_packet_limit
+read_core-found-requires-clause-limit_le_packet_limit c = omega arith
+
+pub read_core-found-requires-clause-cleared : goal.read_core-found-requires-clause-cleared
+read_core-found-requires-clause-cleared c = cleared-zeros
 
 pub returns-then-not-read : goal.returns-then-not-read
 returns-then-not-read c =

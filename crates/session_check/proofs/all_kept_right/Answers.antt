@@ -1,11 +1,10 @@
 -- `session_check::all_kept_right` meets its contract. States that are right have lengths that a slot holds, which is what the look at the
 -- octets asks. Assumes nothing.
-use Rattle.std.proofs.Common.{rules}
 use Rattle.session_check.proofs.Slot.{sizes-right, kept-passed, kept-failed}
 use Rattle.session_check.proofs.all_kept_right.Goals as goal
 
-pub all_packets_laid-requires : goal.all_packets_laid-requires
-all_packets_laid-requires c = (search rules, (search sizes-right, (search rules, search rules)))
+pub all_packets_laid-requires-clause-sizes_fit : goal.all_packets_laid-requires-clause-sizes_fit
+all_packets_laid-requires-clause-sizes_fit c = search sizes-right
 
 pub returns-then-all_states_right : goal.returns-then-all_states_right
 returns-then-all_states_right c = search kept-passed

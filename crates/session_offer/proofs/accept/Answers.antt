@@ -5,17 +5,14 @@ use Rattle.session_offer.proofs.Accepting.{may-mend, accepted}
 use Rattle.session_offer.proofs.accept.Goals as goal
 
 pub keep-requires : goal.keep-requires
-keep-requires c =
-    let laid = c.requires.in_ranges.laid in
-    (laid.long, (laid.octets, (may-keep c.requires.in_ranges c.requires.may_be_accepted, (received-fills, (own-note _, c.requires.may_be_accepted.inside.newest)))))
+keep-requires c = let laid = c.requires.in_ranges.laid in record { table_len = laid.long; octets_len = laid.octets; may_keep = may-keep c.requires.in_ranges c.requires.may_be_accepted; state_value = received-fills; number_value = own-note _; part_inside = c.requires.may_be_accepted.inside.newest }
 
 pub keep_spares-requires : goal.keep_spares-requires
 keep_spares-requires c =
     let may = c.requires.may_be_accepted in
     let told = c.Spares-of.ensures in
     let first = c.keep.ensures in
-    let laid = (within_first c.requires.in_ranges may first).laid in
-    (laid.long, (laid.octets, (may-spare c.requires.in_ranges may first told, carries-spares may told)))
+    let laid = (within_first c.requires.in_ranges may first).laid in record { table_len = laid.long; octets_len = laid.octets; may_keep = may-spare c.requires.in_ranges may first told; carries_spares = carries-spares may told }
 
 pub hold-requires : goal.hold-requires
 hold-requires c =

@@ -3,9 +3,7 @@ use Rattle.session_offer.proofs.Offering.{offer-refused, offer-inside, offer-the
 use Rattle.session_offer.proofs.offer_core.Goals as goal
 
 pub offer_read-requires : goal.offer_read-requires
-offer_read-requires c =
-    let is = c.in-Datagram.is in
-    (c.requires, (offer-inside c.read-read.ensures is, offer-there c.read-read.ensures is))
+offer_read-requires c = let is = c.in-Datagram.is in record { in_ranges = c.requires; inside = offer-inside c.read-read.ensures is; count_in_bounds = offer-there c.read-read.ensures is }
 
 pub returns-in-Datagram : goal.returns-in-Datagram
 returns-in-Datagram c = offer-taken c.read-read.ensures c.in-Datagram.is c.offer_read.ensures

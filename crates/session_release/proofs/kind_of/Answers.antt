@@ -14,12 +14,15 @@ the_last n unknown received spare low =
     record { same = rw (ne_eqb n 0 unknown, ne_eqb n 1 received, ne_eqb n 2 spare, eq-eqb n 3 (omega arith)) }
 
 pub returns-then-state-eq-UNKNOWN : goal.returns-then-state-eq-UNKNOWN
+unfolding state_numbered
 returns-then-state-eq-UNKNOWN c = record { same = search tests }
 
 pub returns-then-state-eq-RECEIVED : goal.returns-then-state-eq-RECEIVED
+unfolding state_numbered
 returns-then-state-eq-RECEIVED c = record { same = search tests }
 
 pub returns-then-state-eq-SPARE : goal.returns-then-state-eq-SPARE
+unfolding state_numbered
 returns-then-state-eq-SPARE c = record { same = search tests }
 
 pub returns : goal.returns

@@ -19,11 +19,12 @@ pub kind_of-kind-requires : goal.kind_of-kind-requires
 kind_of-kind-requires c = not-blank c.requires c.kept_slot-slot.ensures c.state_at-state.ensures
 
 pub move_on-moved-requires : goal.move_on-moved-requires
-move_on-moved-requires c = (
-  c.requires,
-  may-leave c.requires c.all_passed.ensures c.if-all_passed.false c.kept_slot-slot.ensures c.state_at-state.ensures
-      c.kind_of-kind.ensures,
-)
+move_on-moved-requires c =
+    record {
+      in_ranges = c.requires;
+      may_move_on = may-leave c.requires c.all_passed.ensures c.if-all_passed.false c.kept_slot-slot.ensures c.state_at-state.ensures
+          c.kind_of-kind.ensures;
+    }
 
 pub returns : goal.returns
 returns c =

@@ -7,7 +7,7 @@ pub count_one-moved-requires : goal.count_one-moved-requires
 count_one-moved-requires c = c.requires.may_move_on.left
 
 pub free_messages-requires : goal.free_messages-requires
-free_messages-requires c = (search rules, (search rules, few-leave c.requires.in_ranges c.heard_slot-leaves.ensures c.m_at-m.ensures))
+free_messages-requires c = record { j_lt_slots_heard = search rules; messages_len = search rules; m_le_messages_limit = few-leave c.requires.in_ranges c.heard_slot-leaves.ensures c.m_at-m.ensures }
 
 pub returns : goal.returns
 returns c =

@@ -16,8 +16,7 @@ copy_out-requires c =
     let small =
     size_small c.requires.may_mend.within c.args.distance c.args.index c.requires.index_bound
     c.wrapping_add_u16-at.ensures
-    c.heard_slot-slot.ensures c.message_size_at-size.ensures in
-    (omega (arith, c.requires.may_mend.within.laid.messages, c.requires.index_lt_messages_limit, c.heard_slot-slot.ensures), (small, small))
+    c.heard_slot-slot.ensures c.message_size_at-size.ensures in record { has_slot = omega (arith, c.requires.may_mend.within.laid.messages, c.requires.index_lt_messages_limit, c.heard_slot-slot.ensures); n_le_packet_limit = small; n_in_bounds = small }
 
 pub slice_bounds-sum-end : goal.slice_bounds-sum-end
 slice_bounds-sum-end c = omega (arith, c.requires.width_le_packet_limit)
@@ -37,6 +36,7 @@ add_members-requires c = (
 )
 
 pub returns : goal.returns
+unfolding zeros
 returns c =
     asked-over c.requires.may_mend.within c.args.distance c.args.index c.requires.distance_lt_kept_ahead c.requires.index_bound
     (zeros packet_limit) (length-zeros packet_limit)

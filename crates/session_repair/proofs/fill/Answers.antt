@@ -4,7 +4,7 @@ use Rattle.session_repair.proofs.Fills.{slot-fits, index-fits, size_fits, filled
 use Rattle.session_repair.proofs.fill.Goals as goal
 
 pub size_of-size-requires : goal.size_of-size-requires
-size_of-size-requires c = (c.requires.may_mend.within.laid.long, index-fits c.requires.may_mend.within c.requires.points c.requires.index_value)
+size_of-size-requires c = record { table_len = c.requires.may_mend.within.laid.long; index_lt_messages_limit = index-fits c.requires.may_mend.within c.requires.points c.requires.index_value }
 
 pub asked-sum-requires : goal.asked-sum-requires
 asked-sum-requires c = (
@@ -43,7 +43,7 @@ pub narrow-length-requires : goal.narrow-length-requires
 narrow-length-requires c = size_fits c.requires.may_mend.within c.requires.points c.requires.index_value c.type_size.ensures
 
 pub set_kept-requires : goal.set_kept-requires
-set_kept-requires c = (c.requires.may_mend.within.laid.long, slot-fits c.requires.may_mend.within c.requires.points c.requires.index_value)
+set_kept-requires c = record { table_len = c.requires.may_mend.within.laid.long; slot_lt_slots_kept = slot-fits c.requires.may_mend.within c.requires.points c.requires.index_value }
 
 pub returns : goal.returns
 returns c =

@@ -17,8 +17,7 @@ pub fill-requires : goal.fill-requires
 fill-requires c =
     let so = c.loop-left.invariant in
     let f = c.first_usable-found.ensures in
-    let e = c.in-Message.is in
-    (mending-may so, (mending-points so f e, mending-usable so f e))
+    let e = c.in-Message.is in record { may_mend = mending-may so; points = mending-points so f e; index_value = mending-usable so f e }
 
 pub loop-left-preserved : goal.loop-left-preserved
 loop-left-preserved c = search mending-turn

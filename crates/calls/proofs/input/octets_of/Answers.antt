@@ -5,4 +5,4 @@ use Rattle.calls.proofs.Digits.{digits-told}
 use Rattle.calls.proofs.input.octets_of.Goals as goal
 
 pub pair_up-requires : goal.pair_up-requires
-pair_up-requires c = (digits-told _ c.all_digits.ensures (not-false _ c.if-not-all_digits.false-raw), search rules)
+pair_up-requires c = record { line_value = digits-told _ c.all_digits.ensures (not-false _ c.if-not-all_digits.false-raw); line_in_bounds = search rules }

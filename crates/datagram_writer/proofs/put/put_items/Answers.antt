@@ -10,6 +10,11 @@ loop-i-init c = search goings
 pub overflow_add-to : goal.overflow_add-to
 overflow_add-to c = let t = turning c.loop-i.invariant c.loop-i-test.true c.wide.ensures in omega arith
 
+pub slice_bounds-item-end : goal.slice_bounds-item-end
+slice_bounds-item-end c =
+    let t = turning c.loop-i.invariant c.loop-i-test.true
+    c.wide.ensures in omega arith
+
 pub put_item-size-requires : goal.put_item-size-requires
 put_item-size-requires c = item-asked (turning c.loop-i.invariant c.loop-i-test.true c.wide.ensures) (omega arith)
 

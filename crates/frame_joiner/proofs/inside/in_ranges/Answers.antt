@@ -9,7 +9,7 @@ pub returns-then-size-gt-LIMIT : goal.returns-then-size-gt-LIMIT
 returns-then-size-gt-LIMIT c = search over-ranges
 
 pub zeros_in_run-clean-requires : goal.zeros_in_run-clean-requires
-zeros_in_run-clean-requires c = (omega arith, c.passing-table.ensures ∙ ap mask_over (sym c.requires))
+zeros_in_run-clean-requires c = record { n_in_bounds = omega arith; table_value = c.passing-table.ensures ∙ ap mask_over (sym c.requires) }
 
 pub returns : goal.returns
 returns c = search ranges-checked

@@ -12,8 +12,7 @@ overflow_add-slot-2 c = omega (arith, base-most c.args.ahead kept_before)
 pub lay_kept-requires : goal.lay_kept-requires
 lay_kept-requires c =
     let sized = c.requires.lengths in
-    let fit = c.requires.line_fits in
-    (sized.table, (omega arith, (omega (arith, sized.octets), packet-inside fit)))
+    let fit = c.requires.line_fits in record { table_len = sized.table; slot_lt_slots_kept = omega arith; has_slot = omega (arith, sized.octets); part_inside = packet-inside fit }
 
 pub lay_messages-requires : goal.lay_messages-requires
 lay_messages-requires c =

@@ -15,9 +15,7 @@ pub returns-then-from_base-m : goal.returns-then-from_base-m
 returns-then-from_base-m c = search tails
 
 pub items_at-items-requires : goal.items_at-items-requires
-items_at-items-requires c =
-    let ahead = c.args.ahead in
-    (omega arith, omega (arith, base-most ahead messages_limit))
+items_at-items-requires c = let ahead = c.args.ahead in record { first_in_bounds = omega arith; count_le_messages_limit = omega (arith, base-most ahead messages_limit) }
 
 pub returns-then-not-read : goal.returns-then-not-read
 returns-then-not-read c = search (tails, not-true, not-false)

@@ -11,8 +11,7 @@ pub read_lines-requires : goal.read_lines-requires
 read_lines-requires c =
     let head = c.first_line-first.ensures in
     let so = not-false _ c.if-not-read.false-raw in
-    let pre = c.requires in
-    (head-inside head so, (pre.0, pre.1.sized))
+    let pre = c.requires in record { from_in_bounds = head-inside head so; limit_le_packet_limit = pre.0; lengths = pre.1.sized }
 
 pub returns-in_default : goal.returns-in_default
 returns-in_default c =
@@ -25,8 +24,7 @@ read_lines-requires-2 c =
     let head = c.first_line-first.ensures in
     let so = not-false _ c.if-not-read.false-raw in
     let told = c.read_lines.ensures in
-    let is = c.in-At.is in
-    (middle-inside head so told is, (c.requires.limit_le_packet_limit, middle-sized head so told is))
+    let is = c.in-At.is in record { from_in_bounds = middle-inside head so told is; limit_le_packet_limit = c.requires.limit_le_packet_limit; lengths = middle-sized head so told is }
 
 pub returns-in_default-read_lines : goal.returns-in_default-read_lines
 returns-in_default-read_lines c =

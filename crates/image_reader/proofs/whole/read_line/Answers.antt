@@ -34,9 +34,7 @@ slice_bounds-lay-end-in-Octets c =
     sym (length-take-le _ take.new.1.0 (omega (arith, take.auto.1.0)))
 
 pub lay-requires : goal.lay-requires
-lay-requires c =
-    let pre = c.requires in
-    (pre.1.0, (line-fits pre.0 c.number_in-number.ensures (not-false _ c.if-not-read.false-raw), pre.1.1.1))
+lay-requires c = let pre = c.requires in record { k_lt_kept_ahead = pre.1.0; line_fits = line-fits pre.0 c.number_in-number.ensures (not-false _ c.if-not-read.false-raw); lengths = pre.1.1.1 }
 
 pub returns-in-Misshapen : goal.returns-in-Misshapen
 returns-in-Misshapen c = search line-none

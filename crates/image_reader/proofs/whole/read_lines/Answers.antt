@@ -14,8 +14,7 @@ slice_bounds-read_line-end-in-loop-k c = c.loop-k.invariant.long
 pub read_line-requires : goal.read_line-requires
 read_line-requires c =
     let inv = c.loop-k.invariant in
-    let pre = c.requires in
-    (pre.1.0, (c.loop-k-test.true, (sym inv.long, inv.sized)))
+    let pre = c.requires in record { limit_le_packet_limit = pre.1.0; k_lt_kept_ahead = c.loop-k-test.true; line_len = sym inv.long; lengths = inv.sized }
 
 pub shape_of-table-in-Misshapen : goal.shape_of-table-in-Misshapen
 shape_of-table-in-Misshapen c = c.read_line.auto.1.1.1.1.1.1.0 ∙ reading-table c.loop-k.invariant

@@ -21,8 +21,7 @@ put_messages-end-requires c =
     let pre = c.requires in
     let row = pre.1.1.1.0 in
     let room = row-messages args.table.now args.octets.now args.messages.now args.row c.put_kept-one.ensures
-    c.put_digits-two.ensures pre.1.1.1.1 in
-    (pre.0, (pre.1.1.0, (row.heard, (row.few, room))))
+    c.put_digits-two.ensures pre.1.1.1.1 in record { table_fits = pre.0; messages_len = pre.1.1.0; heard_lt_slots_heard = row.heard; m_le_messages_limit = row.few; room = room }
 
 pub end_line-requires : goal.end_line-requires
 end_line-requires c =

@@ -11,8 +11,7 @@ pub put_row-end-requires : goal.put_row-end-requires
 put_row-end-requires c =
     let pre = c.requires in
     let room = going-room pre.1.1.1 c.loop-p.invariant c.loop-p-test.true in
-    let row = c.row_at-row.ensures in
-    (pre.0, (pre.1.0, (pre.1.1.0, (row.fits, told-room row c.args.octets.now c.args.messages.now room))))
+    let row = c.row_at-row.ensures in record { table_fits = pre.0; octets_len = pre.1.0; messages_len = pre.1.1.0; row_fits = row.fits; room = told-room row c.args.octets.now c.args.messages.now room }
 
 pub loop-p-preserved : goal.loop-p-preserved
 loop-p-preserved c =

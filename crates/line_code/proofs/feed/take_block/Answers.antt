@@ -12,7 +12,7 @@ pub returns-then-out-end-lt-STEP : goal.returns-then-out-end-lt-STEP
 returns-then-out-end-lt-STEP c = fed-full c.loop-taken.invariant c.if-out-end-lt-STEP.true
 
 pub take_line-part-requires : goal.take_line-part-requires
-take_line-part-requires c = (fed-ready c.loop-taken.invariant c.if-out-end-lt-STEP.false, left-some c.args.block.now _ c.loop-taken-test.true)
+take_line-part-requires c = record { feedable = fed-ready c.loop-taken.invariant c.if-out-end-lt-STEP.false; in_bounds = left-some c.args.block.now _ c.loop-taken-test.true }
 
 pub overflow_add-taken : goal.overflow_add-taken
 overflow_add-taken c =

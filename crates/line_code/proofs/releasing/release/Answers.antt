@@ -9,13 +9,7 @@ returns-then-skip c =
     c.put_refusal-told.ensures
 
 pub put_kept-end-requires : goal.put_kept-end-requires
-put_kept-end-requires c = (
-  packet-there c.leave_core-done.ensures _,
-  (
-    packet-short c.leave_core-done.ensures c.in-Number.is,
-    packet-room c.leave_core-done.ensures c.in-Number.is c.args.at c.args.out.now c.requires.room,
-  ),
-)
+put_kept-end-requires c = record { has_slot = packet-there c.leave_core-done.ensures _; size_le_packet_limit = packet-short c.leave_core-done.ensures c.in-Number.is; size_in_bounds = packet-room c.leave_core-done.ensures c.in-Number.is c.args.at c.args.out.now c.requires.room }
 
 pub returns-else-skip : goal.returns-else-skip
 returns-else-skip c = released-none c.leave_core-done.ensures c.in-Refused.is c.if-skip.false (omega (arith, c.requires.room))

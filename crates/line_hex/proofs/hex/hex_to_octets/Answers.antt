@@ -17,7 +17,7 @@ pub returns-then-out-count : goal.returns-then-out-count
 returns-then-out-count c = search (linings, not-false)
 
 pub pair_up-requires : goal.pair_up-requires
-pair_up-requires c = (digits-told _ c.all_digits.ensures (not-false _ c.if-not-all_digits.false-raw), search rules)
+pair_up-requires c = record { line_value = digits-told _ c.all_digits.ensures (not-false _ c.if-not-all_digits.false-raw); line_in_bounds = search rules }
 
 pub returns : goal.returns
 returns c = search (linings, not-false)

@@ -6,6 +6,9 @@ use Rattle.packet_reader.proofs.items.read_data.Goals as goal
 pub slice_bounds-read_size-count : goal.slice_bounds-read_size-count
 slice_bounds-read_size-count c = search datas
 
+pub slice_bounds-read_size-start : goal.slice_bounds-read_size-start
+slice_bounds-read_size-start c = search datas
+
 pub further-requires : goal.further-requires
 further-requires c = search datas
 

@@ -5,6 +5,9 @@ use Rattle.packet_reader.proofs.reader.read_end.Goals as goal
 pub slice_bounds-may_follow-count : goal.slice_bounds-may_follow-count
 slice_bounds-may_follow-count c = search ending
 
+pub slice_bounds-may_follow-start : goal.slice_bounds-may_follow-start
+slice_bounds-may_follow-start c = search ending
+
 pub returns-then-may_follow : goal.returns-then-may_follow
 returns-then-may_follow c = search ending
 

@@ -11,6 +11,9 @@ bounds-out-1 c = simp length-set (omega arith)
 pub slice_bounds-put_octets-count : goal.slice_bounds-put_octets-count
 slice_bounds-put_octets-count c = simp length-set (omega arith)
 
+pub slice_bounds-put_octets-start : goal.slice_bounds-put_octets-start
+slice_bounds-put_octets-start c = simp length-set (omega arith)
+
 pub put_octets-requires : goal.put_octets-requires
 put_octets-requires c = simp (length-set, length-take, length-drop) (omega arith)
 

@@ -8,6 +8,9 @@ use Rattle.packet_writer.proofs.writer.put_fields.Goals as goal
 pub loop-i-init : goal.loop-i-init
 loop-i-init c = search fills
 
+pub slice_bounds-put_field-end : goal.slice_bounds-put_field-end
+slice_bounds-put_field-end c = search fills
+
 pub slice_bounds-put_field-count-in-loop-i : goal.slice_bounds-put_field-count-in-loop-i
 slice_bounds-put_field-count-in-loop-i c = search fills
 
@@ -19,6 +22,9 @@ loop-i-preserved c = search fills
 
 pub slice_bounds-put_edge-count : goal.slice_bounds-put_edge-count
 slice_bounds-put_edge-count c = search fills
+
+pub slice_bounds-put_edge-start : goal.slice_bounds-put_edge-start
+slice_bounds-put_edge-start c = search fills
 
 pub put_edge-end-requires : goal.put_edge-end-requires
 put_edge-end-requires c = search fills

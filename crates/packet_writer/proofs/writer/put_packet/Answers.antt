@@ -13,6 +13,9 @@ returns-then-not-present c = search packets
 pub slice_bounds-put_counted-count : goal.slice_bounds-put_counted-count
 slice_bounds-put_counted-count c = search packets
 
+pub slice_bounds-put_counted-start : goal.slice_bounds-put_counted-start
+slice_bounds-put_counted-start c = search packets
+
 pub put_counted-size-requires : goal.put_counted-size-requires
 put_counted-size-requires c = search packets
 

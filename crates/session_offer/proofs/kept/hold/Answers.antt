@@ -7,8 +7,14 @@ use Rattle.session_offer.proofs.kept.hold.Goals as goal
 pub overflow_cast-covered : goal.overflow_cast-covered
 overflow_cast-covered c = search (covered-small, arith)
 
-pub lay-requires : goal.lay-requires
-lay-requires c = (search (rules, may-long), (search (rules, may-octets), (search rules, search carried-fit)))
+pub lay-requires-clause-table_len : goal.lay-requires-clause-table_len
+lay-requires-clause-table_len c = search (rules, may-long)
+
+pub lay-requires-clause-messages_len : goal.lay-requires-clause-messages_len
+lay-requires-clause-messages_len c = search (rules, may-octets)
+
+pub lay-requires-clause-fit : goal.lay-requires-clause-fit
+lay-requires-clause-fit c = search carried-fit
 
 pub returns : goal.returns
 returns c = search number-held

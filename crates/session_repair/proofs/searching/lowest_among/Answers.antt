@@ -8,14 +8,10 @@ pub loop-i-init : goal.loop-i-init
 loop-i-init c = search below-start
 
 pub message_size_at-size-requires : goal.message_size_at-size-requires
-message_size_at-size-requires c =
-    let seen = c.requires in
-    (seen.table.long, there seen c.loop-i-test.true c.wide-index.ensures)
+message_size_at-size-requires c = let seen = c.requires in record { table_len = seen.table.long; slot_lt_slots_messages = there seen c.loop-i-test.true c.wide-index.ensures }
 
 pub missing-unknown-requires : goal.missing-unknown-requires
-missing-unknown-requires c =
-    let seen = c.requires in
-    (seen.table.long, small_n seen)
+missing-unknown-requires c = let seen = c.requires in record { table_len = seen.table.long; n_le_covered_limit = small_n seen }
 
 pub find_back-target-requires : goal.find_back-target-requires
 find_back-target-requires c = c.requires.table.long

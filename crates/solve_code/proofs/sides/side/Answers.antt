@@ -1,5 +1,6 @@
 -- `solve_code::sides::side` meets its contract. Assumes nothing.
 use Rattle.std.proofs.Common.{refl, arith}
+use Rattle.session_slots.specs.Store.{zeros}
 use Rattle.solve_code.proofs.Siding.{index-there, side-there, side-none}
 use Rattle.solve_code.proofs.sides.side.Goals as goal
 
@@ -27,6 +28,7 @@ returns-then-index-count c =
     c.m_at-count.ensures c.if-index-count.true c.asked.ensures
 
 pub returns : goal.returns
+unfolding zeros
 returns c =
     side-none c.args.base _ c.requires.e_lt_table_rows refl refl refl c.wrapping_add_u16-at.ensures c.heard_slot-slot.ensures
     c.m_at-count.ensures _ _ c.if-index-count.false

@@ -9,8 +9,11 @@ use Rattle.solve_code.proofs.sides.sides.Goals as goal
 pub loop-e-init : goal.loop-e-init
 loop-e-init c = sides-start _ _ _ _ (length-replicate {A = ℕ} message_octets 0)
 
-pub side-one-requires : goal.side-one-requires
-side-one-requires c = (c.requires, c.loop-e-test.true)
+pub side-one-requires-clause-may_mend : goal.side-one-requires-clause-may_mend
+side-one-requires-clause-may_mend c = c.requires
+
+pub side-one-requires-clause-e_lt_table_rows : goal.side-one-requires-clause-e_lt_table_rows
+side-one-requires-clause-e_lt_table_rows c = c.loop-e-test.true
 
 pub slice_bounds-put-end : goal.slice_bounds-put-end
 slice_bounds-put-end c = let so = c.loop-e.invariant in omega (arith, so.long)
@@ -19,7 +22,7 @@ pub slice_bounds-put-end-in-loop-e : goal.slice_bounds-put-end-in-loop-e
 slice_bounds-put-end-in-loop-e c = let told = c.side-one.ensures in omega (arith, told.long)
 
 pub put-requires : goal.put-requires
-put-requires c = (slot-there c.loop-e.invariant c.loop-e-test.true, omega (arith, c.side-one.ensures.long))
+put-requires c = record { has_slot = slot-there c.loop-e.invariant c.loop-e-test.true; src_len_bound = omega (arith, c.side-one.ensures.long) }
 
 pub loop-e-preserved : goal.loop-e-preserved
 loop-e-preserved c = sides-turn c.loop-e.invariant c.loop-e-test.true c.side-one.ensures c.put.ensures

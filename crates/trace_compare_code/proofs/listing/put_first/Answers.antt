@@ -21,7 +21,7 @@ pub bounds-to-j : goal.bounds-to-j
 bounds-to-j c = start-there c.requires.kept_trace_2 c.if-j-b.true
 
 pub put_pair-requires : goal.put_pair-requires
-put_pair-requires c = (kept-holds c.requires.kept_trace _ c.requires.i_in_bounds, (kept-holds c.requires.kept_trace_2 _ c.if-j-b.true, c.requires.line_room_in_bounds))
+put_pair-requires c = record { holds_datagram = kept-holds c.requires.kept_trace _ c.requires.i_in_bounds; holds_datagram_2 = kept-holds c.requires.kept_trace_2 _ c.if-j-b.true; line_room_in_bounds = c.requires.line_room_in_bounds }
 
 pub returns-then-j-b : goal.returns-then-j-b
 returns-then-j-b c =

@@ -20,7 +20,7 @@ pub slice_bounds-put_differences-end-2 : goal.slice_bounds-put_differences-end-2
 slice_bounds-put_differences-end-2 c = sym (length-take-le _ _ c.octets_of-n.ensures.inside)
 
 pub put_differences-requires : goal.put_differences-requires
-put_differences-requires c = (read-holds c.octets_of-m.ensures c.requires.a_value, (read-holds c.octets_of-n.ensures c.requires.b_value, c.requires.line_room_in_bounds))
+put_differences-requires c = record { a_value = read-holds c.octets_of-m.ensures c.requires.a_value; b_value = read-holds c.octets_of-n.ensures c.requires.b_value; line_room_in_bounds = c.requires.line_room_in_bounds }
 
 pub returns : goal.returns
 returns c = other-lines _ c.octets_of-m.ensures c.octets_of-n.ensures c.put_differences.ensures

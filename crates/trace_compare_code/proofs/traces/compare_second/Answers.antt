@@ -13,9 +13,7 @@ pub slice_bounds-list_all-end : goal.slice_bounds-list_all-end
 slice_bounds-list_all-end c = taken-long (c.read_trace-read.ensures.kept _ c.in-Datagrams.is)
 
 pub list_all-requires : goal.list_all-requires
-list_all-requires c =
-    let kept = c.read_trace-read.ensures.kept _ c.in-Datagrams.is in
-    (c.requires.kept, (kept.kept, (c.requires.short, taken-short kept c.requires.few.right)))
+list_all-requires c = let kept = c.read_trace-read.ensures.kept _ c.in-Datagrams.is in record { kept_trace = c.requires.kept; kept_trace_2 = kept.kept; a_len_bound = c.requires.short; b_len_bound = taken-short kept c.requires.few.right }
 
 pub returns-in-Refused : goal.returns-in-Refused
 returns-in-Refused c = compares-second _ _ _ c.requires (c.read_trace-read.ensures.refused _ c.in-Refused.is)

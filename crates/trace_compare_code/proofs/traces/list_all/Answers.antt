@@ -4,7 +4,7 @@ use Rattle.trace_compare_code.proofs.Whole.{room-second, both-listed, size-insid
 use Rattle.trace_compare_code.proofs.traces.list_all.Goals as goal
 
 pub list_first-end-requires : goal.list_first-end-requires
-list_first-end-requires c = (c.requires.kept_trace, (c.requires.kept_trace_2, omega (arith, c.requires.a_len_bound)))
+list_first-end-requires c = record { kept_trace = c.requires.kept_trace; kept_trace_2 = c.requires.kept_trace_2; a_in_bounds = omega (arith, c.requires.a_len_bound) }
 
 pub list_second-size-requires : goal.list_second-size-requires
 list_second-size-requires c = room-second c.requires.kept_trace c.requires.kept_trace_2 c.list_first-end.ensures c.requires.a_len_bound c.requires.b_len_bound (omega arith)

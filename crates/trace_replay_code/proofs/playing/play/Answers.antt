@@ -10,7 +10,7 @@ pub loop-at-init : goal.loop-at-init
 loop-at-init c = playing-start _ _ _ _ _ _ c.requires.in_ranges (omega arith)
 
 pub take_line-taken-requires : goal.take_line-taken-requires
-take_line-taken-requires c = (playing-able c.loop-at.invariant, c.loop-at-test.true)
+take_line-taken-requires c = record { able = playing-able c.loop-at.invariant; at_in_bounds = c.loop-at-test.true }
 
 pub overflow_sub-out : goal.overflow_sub-out
 overflow_sub-out c = omega (arith, playing-long c.loop-at.invariant, c.loop-at.invariant.fits)
