@@ -4,7 +4,7 @@ use lib.ListN.{length}
 use Rattle.program_input.proofs.read_line.Given as goal
 
 abbrev pub invariant-loop-turns : goal.invariant-loop-turns
-invariant-loop-turns l = length l.line ≡ length l.initial.line
+invariant-loop-turns g l = length l.line ≡ length l.initial.line
 
 abbrev pub decreases-loop-turns : goal.decreases-loop-turns
-decreases-loop-turns l = l.turns
+decreases-loop-turns g l = l.turns
