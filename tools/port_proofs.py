@@ -11,6 +11,8 @@ import os
 import re
 import sys
 
+# steps whose names port.py turned, since std has words of the same spelling
+OTHERWISE = {"type_size": "size_of"}
 norm = lambda w: w.replace("-", "_")
 WORD = r"[A-Za-z_Α-ω«][\w'₀-₉«»\-]*"
 PATH = re.compile(r"(?<![\w'.\-])(" + WORD + r")((?:\.[\w'«»\-]+)+)")
@@ -160,7 +162,7 @@ class Function:
             return ".".join(["c", "requires", names[i]] + rest)
         if f in ("args", "ranges", "requires", "type_inv"):
             return ".".join(["c"] + fields)
-        n = norm(f)
+        n = norm(OTHERWISE.get(f, f))
         for size in range(len(rest), 0, -1):
             hit = self.arms.get((n, tuple(rest[:size])))
             if hit:
@@ -170,6 +172,8 @@ class Function:
         if n in self.steps:
             if rest and (n, rest[0]) in self.extra:
                 rest[0] = self.extra[(n, rest[0])]
+            if re.match(r"(wrapping|saturating)_", n) and rest == ["ensures"]:
+                rest = ["ensures", "value"]
             return ".".join(["c", self.steps[n]] + rest)
         return ".".join(["c"] + fields)
 
@@ -207,9 +211,8 @@ def requirements(top):
             if f.endswith(".rt"):
                 crate = folder[len(top) :].strip("/").split("/")[0]
                 text = open(os.path.join(folder, f), encoding="utf-8").read()
-                for m in re.finditer(r"\bfn (\w+)[^{;]*?(?=\n\s*(?:requires|ensures)|\{|;)", text):
-                    end = re.compile(r"\bfn \w").search(text, m.end())
-                    part = text[m.end() : end.start() if end else len(text)]
+                for m in re.finditer(r"\bfn (\w+)", text):
+                    part = re.split(r"^\s*\{\s*$|\bfn \w", text[m.end() :], 1, re.M)[0]
                     names = re.findall(r"^\s*requires (\w+) \{", part, re.M)
                     if len(names) > 1:
                         found[(crate, m.group(1))] = names

@@ -12,7 +12,7 @@ pub loop-i-preserved : goal.loop-i-preserved
 loop-i-preserved c =
     let low : c.wrapping_sub_u16-first.result < numbers = omega arith in
     note-turn c.args.base _ c.loop-i.invariant c.loop-i-test.true c.state_at-state.ensures c.note_at-note.ensures
-    c.ranges.base.fits low c.wrapping_sub_u16-first.ensures refl c.wrapping_add_u16-number.ensures c.note_right-right.ensures
+    c.ranges.base.fits low c.wrapping_sub_u16-first.ensures.value refl c.wrapping_add_u16-number.ensures.value c.note_right-right.ensures
 
 pub returns : goal.returns
 returns c = search checked-done

@@ -15,11 +15,7 @@ keep_spares-requires c =
     let laid = (within_first c.requires.in_ranges may first).laid in record { table_len = laid.long; octets_len = laid.octets; may_keep = may-spare c.requires.in_ranges may first told; carries_spares = carries-spares may told }
 
 pub hold-requires : goal.hold-requires
-hold-requires c =
-    let may = c.requires.may_be_accepted in (
-      may-hold c.requires.in_ranges may c.keep.ensures c.Spares-of.ensures c.keep_spares.ensures,
-      carries may c.covered_of-n.ensures c.messages_of-m.ensures,
-    )
+hold-requires c = let may = c.requires.may_be_accepted in record { may_hold = may-hold c.requires.in_ranges may c.keep.ensures c.Spares-of.ensures c.keep_spares.ensures; carries_messages = carries may c.covered_of-n.ensures c.messages_of-m.ensures }
 
 pub mend-requires : goal.mend-requires
 mend-requires c =

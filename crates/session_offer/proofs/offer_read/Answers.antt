@@ -9,7 +9,7 @@ returns-then-distance-lt-LATE_FROM c =
     let a = c.args in
     let near : c.wrapping_sub_u16-distance.result < numbers = omega arith in
     made-far c.requires.in_ranges a.s.now a.packet a.kind a.count a.items
-    c.ranges.number.fits near c.wrapping_sub_u16-distance.ensures
+    c.ranges.number.fits near c.wrapping_sub_u16-distance.ensures.value
     c.if-distance-ge-AHEAD.true c.if-distance-lt-LATE_FROM.true c.refused.ensures
 
 pub returns-then-distance-ge-AHEAD : goal.returns-then-distance-ge-AHEAD
@@ -17,7 +17,7 @@ returns-then-distance-ge-AHEAD c =
     let a = c.args in
     let near : c.wrapping_sub_u16-distance.result < numbers = omega arith in
     made-late c.requires.in_ranges a.s.now a.packet a.kind a.count a.items
-    c.ranges.number.fits near c.wrapping_sub_u16-distance.ensures
+    c.ranges.number.fits near c.wrapping_sub_u16-distance.ensures.value
     c.if-distance-ge-AHEAD.true c.if-distance-lt-LATE_FROM.false c.refused-then-distance-ge-AHEAD.ensures
 
 pub returns-then-accepted_at : goal.returns-then-accepted_at
@@ -25,24 +25,24 @@ returns-then-accepted_at c =
     let a = c.args in
     let near : c.wrapping_sub_u16-distance.result < numbers = omega arith in
     made_again c.requires.in_ranges a.s.now a.packet a.kind a.count a.items
-    c.ranges.number.fits near c.wrapping_sub_u16-distance.ensures
+    c.ranges.number.fits near c.wrapping_sub_u16-distance.ensures.value
     c.if-distance-ge-AHEAD.false c.heard_slot-slot.ensures c.accepted_at.ensures c.if-accepted_at.true c.refused-then-accepted_at.ensures
 
 pub accept-requires : goal.accept-requires
 accept-requires c =
     let a = c.args in
-    let near : c.wrapping_sub_u16-distance.result < numbers = omega arith in (
-      c.requires.in_ranges,
-      may-accept c.requires.in_ranges a.s.now a.packet a.kind a.count a.items
-          c.ranges.number.fits near c.wrapping_sub_u16-distance.ensures
+    let near : c.wrapping_sub_u16-distance.result < numbers = omega arith in record {
+      in_ranges = c.requires.in_ranges;
+      may_be_accepted = may-accept c.requires.in_ranges a.s.now a.packet a.kind a.count a.items
+          c.ranges.number.fits near c.wrapping_sub_u16-distance.ensures.value
           c.if-distance-ge-AHEAD.false c.heard_slot-slot.ensures c.accepted_at.ensures c.if-accepted_at.false
-          c.requires.inside c.requires.count_in_bounds,
-    )
+          c.requires.inside c.requires.count_in_bounds;
+    }
 
 pub returns : goal.returns
 returns c =
     let a = c.args in
     let near : c.wrapping_sub_u16-distance.result < numbers = omega arith in
     made-accepted c.requires.in_ranges a.s.now a.packet a.kind a.count a.items
-    c.ranges.number.fits near c.wrapping_sub_u16-distance.ensures
+    c.ranges.number.fits near c.wrapping_sub_u16-distance.ensures.value
     c.if-distance-ge-AHEAD.false c.heard_slot-slot.ensures c.accepted_at.ensures c.if-accepted_at.false c.accept.ensures

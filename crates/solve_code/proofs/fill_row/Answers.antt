@@ -5,24 +5,21 @@ use Rattle.solve_code.proofs.Filling.{table-long, octets-long}
 use Rattle.solve_code.proofs.fill_row.Goals as goal
 
 pub keep-requires : goal.keep-requires
-keep-requires c = (
-  table-long c.requires.may_fill,
-  (
-    octets-long c.requires.may_fill,
-    (
-      may-keep c.args.base c.wrapping_sub_u16-first.result c.if-place-lt-PLACES.true refl c.wrapping_sub_u16-first.ensures refl
-          c.wrapping_add_u16-number.ensures
-          c.requires.may_fill,
-      (repaired-fills, (repaired-noted 0 _, part-inside c.row_sum-sum.ensures)),
-    ),
-  ),
-)
+keep-requires c =
+    record {
+      fields = table-long c.requires.may_fill;
+      text = octets-long c.requires.may_fill;
+      told = may-keep c.args.base c.wrapping_sub_u16-first.result c.if-place-lt-PLACES.true refl c.wrapping_sub_u16-first.ensures.value refl
+          c.wrapping_add_u16-number.ensures.value
+          c.requires.may_fill;
+      utf8 = (repaired-fills, (repaired-noted 0 _, part-inside c.row_sum-sum.ensures));
+    }
 
 pub returns-then-place-lt-PLACES : goal.returns-then-place-lt-PLACES
 returns-then-place-lt-PLACES c =
     row-fills c.lone_place-place.ensures c.if-place-lt-PLACES.true
-    (stands c.args.base c.wrapping_sub_u16-first.result c.if-place-lt-PLACES.true refl c.wrapping_sub_u16-first.ensures refl
-    c.wrapping_add_u16-number.ensures)
+    (stands c.args.base c.wrapping_sub_u16-first.result c.if-place-lt-PLACES.true refl c.wrapping_sub_u16-first.ensures.value refl
+    c.wrapping_add_u16-number.ensures.value)
     c.row_sum-sum.ensures c.keep.ensures
 
 pub returns-else-place-lt-PLACES : goal.returns-else-place-lt-PLACES

@@ -18,10 +18,7 @@ pub lay_messages-requires : goal.lay_messages-requires
 lay_messages-requires c =
     let near = c.requires.k_lt_kept_ahead in
     let fit = c.requires.line_fits in
-    let sized = c.requires.lengths in (
-      table-long c.args.base near fit sized c.place_of-place.ensures refl c.lay_kept.ensures,
-      (sized.messages, (omega arith, messages-fit fit c.wide.ensures)),
-    )
+    let sized = c.requires.lengths in record { table_len = table-long c.args.base near fit sized c.place_of-place.ensures refl c.lay_kept.ensures; messages_len = sized.messages; j_lt_slots_heard = omega arith; messages_fit = messages-fit fit c.wide.ensures }
 
 pub returns-then-ahead : goal.returns-then-ahead
 returns-then-ahead c =

@@ -16,13 +16,7 @@ lay_message-requires c =
     let octets = pre.1.0 in
     let small = pre.1.1.0 in
     let fit = pre.1.1.1 in
-    let more = c.loop-i-test.true in (
-      laying-long inv long,
-      (
-        laying-place inv small long octets fit more,
-        (laying-slot inv small long octets fit more, laying-part inv small long octets fit more),
-      ),
-    )
+    let more = c.loop-i-test.true in record { table_len = laying-long inv long; slot_lt_slots_messages = laying-place inv small long octets fit more; has_slot = laying-slot inv small long octets fit more; part_inside = laying-part inv small long octets fit more }
 
 pub loop-i-preserved : goal.loop-i-preserved
 loop-i-preserved c = search layings

@@ -10,10 +10,7 @@ pub slice_bounds-pair_up-end : goal.slice_bounds-pair_up-end
 slice_bounds-pair_up-end c = sym (two-long c.upper_run-digits.ensures c.if-digits-lt2.false)
 
 pub pair_up-requires : goal.pair_up-requires
-pair_up-requires c = (
-  two_digits _ c.upper_run-digits.ensures c.if-digits-lt2.false (λ k. (c.type_inv.text k).fits),
-  omega (arith, two-long c.upper_run-digits.ensures c.if-digits-lt2.false),
-)
+pair_up-requires c = record { line_value = two_digits _ c.upper_run-digits.ensures c.if-digits-lt2.false (λ k. (c.type_inv.text k).fits); line_in_bounds = omega (arith, two-long c.upper_run-digits.ensures c.if-digits-lt2.false) }
 
 pub returns : goal.returns
 returns c = search namings

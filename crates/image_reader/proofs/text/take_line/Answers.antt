@@ -23,10 +23,7 @@ pub pair_up-requires : goal.pair_up-requires
 pair_up-requires c =
     let run = c.upper_run-stop.ensures in
     let text = c.args.text.now in
-    let stop = c.upper_run-stop.result in (
-      run-digits run c.if-text-stop.false c.if-text-stop-ne-FEED.false (λ k. (c.type_inv.text k).fits),
-      omega (arith, length-take-le stop text (omega arith)),
-    )
+    let stop = c.upper_run-stop.result in record { line_value = run-digits run c.if-text-stop.false c.if-text-stop-ne-FEED.false (λ k. (c.type_inv.text k).fits); line_in_bounds = omega (arith, length-take-le stop text (omega arith)) }
 
 pub returns : goal.returns
 returns c = search takings

@@ -5,10 +5,7 @@ use Rattle.image_writer.proofs.numbers.put_row.Goals as goal
 pub put_kept-one-requires : goal.put_kept-one-requires
 put_kept-one-requires c =
     let args = c.args in
-    let pre = c.requires in (
-      pre.0,
-      (pre.1.0, (pre.1.1.1.0, row_kept args.table.now args.octets.now args.messages.now args.row pre.1.1.1.1)),
-    )
+    let pre = c.requires in record { table_fits = pre.0; octets_len = pre.1.0; row_fits = pre.1.1.1.0; room = row_kept args.table.now args.octets.now args.messages.now args.row pre.1.1.1.1 }
 
 pub put_digits-two-requires : goal.put_digits-two-requires
 put_digits-two-requires c =

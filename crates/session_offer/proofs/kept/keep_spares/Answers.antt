@@ -10,11 +10,23 @@ use Rattle.session_offer.proofs.kept.keep_spares.Goals as goal
 pub loop-j-init : goal.loop-j-init
 loop-j-init c = search sparing-start
 
-pub keep-requires : goal.keep-requires
-keep-requires c = (
-  search sparing-long,
-  (search sparing-octets, (search sparing-may, (fills _ (search rules) (search rules), (spare-noted _ _, search sparing-part)))),
-)
+pub keep-requires-clause-table_len : goal.keep-requires-clause-table_len
+keep-requires-clause-table_len c = search sparing-long
+
+pub keep-requires-clause-octets_len : goal.keep-requires-clause-octets_len
+keep-requires-clause-octets_len c = search sparing-octets
+
+pub keep-requires-clause-may_keep : goal.keep-requires-clause-may_keep
+keep-requires-clause-may_keep c = search sparing-may
+
+pub keep-requires-clause-state_value : goal.keep-requires-clause-state_value
+keep-requires-clause-state_value c = fills _ (search rules) (search rules)
+
+pub keep-requires-clause-number_value : goal.keep-requires-clause-number_value
+keep-requires-clause-number_value c = spare-noted _ _
+
+pub keep-requires-clause-part_inside : goal.keep-requires-clause-part_inside
+keep-requires-clause-part_inside c = search sparing-part
 
 pub loop-j-preserved : goal.loop-j-preserved
 loop-j-preserved c = search sparing-turn

@@ -9,7 +9,7 @@ loop-seen-init c = search seen_start
 
 pub returns-in-Message : goal.returns-in-Message
 returns-in-Message c =
-    seen-hit c.loop-seen.invariant c.count_all-total.ensures c.loop-seen-test.true c.wrapping_add_u16-at.ensures
+    seen-hit c.loop-seen.invariant c.count_all-total.ensures c.loop-seen-test.true c.wrapping_add_u16-at.ensures.value
     c.lowest_usable-found.ensures c.in-Message.is
 
 pub overflow_add-seen : goal.overflow_add-seen
@@ -23,7 +23,7 @@ loop-seen-smaller c = omega (arith, more_left c.loop-seen.invariant c.count_all-
 
 pub loop-seen-preserved : goal.loop-seen-preserved
 loop-seen-preserved c =
-    seen-turn c.loop-seen.invariant c.count_all-total.ensures c.loop-seen-test.true c.wrapping_add_u16-at.ensures
+    seen-turn c.loop-seen.invariant c.count_all-total.ensures c.loop-seen-test.true c.wrapping_add_u16-at.ensures.value
     c.lowest_usable-found.ensures c.in_default.is c.heard_slot-place.ensures c.count_at-m.ensures
 
 pub returns : goal.returns

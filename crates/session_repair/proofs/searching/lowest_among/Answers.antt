@@ -19,12 +19,12 @@ find_back-target-requires c = c.requires.table.long
 pub returns-then-unknown-eq1 : goal.returns-then-unknown-eq1
 returns-then-unknown-eq1 c =
     lowest-hit c.requires c.loop-i.invariant c.loop-i-test.true c.wide-index.ensures refl c.message_size_at-size.ensures
-    c.wrapping_add_u16-first.ensures c.missing-unknown.ensures c.if-unknown-eq1.true c.find_back-target.ensures
+    c.wrapping_add_u16-first.ensures.value c.missing-unknown.ensures c.if-unknown-eq1.true c.find_back-target.ensures
 
 pub loop-i-preserved : goal.loop-i-preserved
 loop-i-preserved c =
     below-turn c.requires c.loop-i.invariant c.loop-i-test.true c.wide-index.ensures refl c.message_size_at-size.ensures
-    c.wrapping_add_u16-first.ensures c.missing-unknown.ensures c.if-unknown-eq1.false
+    c.wrapping_add_u16-first.ensures.value c.missing-unknown.ensures c.if-unknown-eq1.false
 
 pub returns : goal.returns
 returns c = lowest-none c.requires c.loop-i.invariant c.loop-i-test.false

@@ -9,7 +9,7 @@ loop-p-init c = search unknown-start
 
 pub loop-p-preserved : goal.loop-p-preserved
 loop-p-preserved c =
-    unknown-turn c.loop-p.invariant c.loop-p-test.true refl refl c.wrapping_add_u16-number.ensures c.kept_slot-slot.ensures
+    unknown-turn c.loop-p.invariant c.loop-p-test.true refl refl c.wrapping_add_u16-number.ensures.value c.kept_slot-slot.ensures
     c.is_known-known.ensures refl c.one_unless-single.ensures
 
 pub returns : goal.returns

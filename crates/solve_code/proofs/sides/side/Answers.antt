@@ -5,30 +5,27 @@ use Rattle.solve_code.proofs.Siding.{index-there, side-there, side-none}
 use Rattle.solve_code.proofs.sides.side.Goals as goal
 
 pub asked-requires : goal.asked-requires
-asked-requires c = (
-  c.requires.may_mend,
-  (
-    omega (arith, c.requires.e_lt_table_rows),
-    (
-      omega (arith, c.requires.e_lt_table_rows),
-      (
-        index-there c.args.base c.args.table.now c.requires.e_lt_table_rows refl refl refl c.wrapping_add_u16-at.ensures
+asked-requires c =
+    record {
+      fields = c.requires.may_mend;
+      text = omega (arith, c.requires.e_lt_table_rows);
+      told = omega (arith, c.requires.e_lt_table_rows);
+      utf8 = (
+        index-there c.args.base c.args.table.now c.requires.e_lt_table_rows refl refl refl c.wrapping_add_u16-at.ensures.value
             c.heard_slot-slot.ensures
             c.m_at-count.ensures
             c.if-index-count.true,
         omega arith,
-      ),
-    ),
-  ),
-)
+      );
+    }
 
 pub returns-then-index-count : goal.returns-then-index-count
 returns-then-index-count c =
-    side-there c.args.base _ c.requires.e_lt_table_rows refl refl refl c.wrapping_add_u16-at.ensures c.heard_slot-slot.ensures
+    side-there c.args.base _ c.requires.e_lt_table_rows refl refl refl c.wrapping_add_u16-at.ensures.value c.heard_slot-slot.ensures
     c.m_at-count.ensures c.if-index-count.true c.asked.ensures
 
 pub returns : goal.returns
 unfolding zeros
 returns c =
-    side-none c.args.base _ c.requires.e_lt_table_rows refl refl refl c.wrapping_add_u16-at.ensures c.heard_slot-slot.ensures
+    side-none c.args.base _ c.requires.e_lt_table_rows refl refl refl c.wrapping_add_u16-at.ensures.value c.heard_slot-slot.ensures
     c.m_at-count.ensures _ _ c.if-index-count.false

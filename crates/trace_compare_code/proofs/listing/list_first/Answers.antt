@@ -9,16 +9,7 @@ pub loop-i-init : goal.loop-i-init
 loop-i-init c = first-start _ _ _
 
 pub put_first-at-requires : goal.put_first-at-requires
-put_first-at-requires c = (
-  c.requires.kept_trace,
-  (
-    c.requires.kept_trace_2,
-    (
-      c.loop-i-test.true,
-      omega (arith, c.loop-i.invariant.few, first-long c.loop-i.invariant, c.requires.a_in_bounds, c.loop-i-test.true),
-    ),
-  ),
-)
+put_first-at-requires c = record { kept_trace = c.requires.kept_trace; kept_trace_2 = c.requires.kept_trace_2; i_in_bounds = c.loop-i-test.true; line_room_in_bounds = omega (arith, c.loop-i.invariant.few, first-long c.loop-i.invariant, c.requires.a_in_bounds, c.loop-i-test.true) }
 
 pub loop-i-preserved : goal.loop-i-preserved
 loop-i-preserved c =

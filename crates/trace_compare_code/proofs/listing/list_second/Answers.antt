@@ -9,10 +9,7 @@ pub loop-j-init : goal.loop-j-init
 loop-j-init c = second-start _ _ _ _ c.requires
 
 pub put_second-at-requires : goal.put_second-at-requires
-put_second-at-requires c = (
-  c.loop-j-test.true,
-  omega (arith, c.loop-j.invariant.few, second-long c.loop-j.invariant, c.requires, c.loop-j-test.true),
-)
+put_second-at-requires c = record { j_in_bounds = c.loop-j-test.true; entry_room_in_bounds = omega (arith, c.loop-j.invariant.few, second-long c.loop-j.invariant, c.requires, c.loop-j-test.true) }
 
 pub loop-j-preserved : goal.loop-j-preserved
 loop-j-preserved c = second-turn c.loop-j.invariant c.loop-j-test.true c.put_second-at.ensures

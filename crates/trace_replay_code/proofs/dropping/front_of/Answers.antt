@@ -19,10 +19,7 @@ pub slice_bounds-pair_up-end : goal.slice_bounds-pair_up-end
 slice_bounds-pair_up-end c = sym (length-take-le 4 c.args.line.now c.if-line-lt-DIGITS.false)
 
 pub pair_up-requires : goal.pair_up-requires
-pair_up-requires c = (
-  sym c.all_digits.ensures ∙ not-false _ c.if-not-all_digits.false-raw,
-  omega (arith, length-take-le 4 c.args.line.now c.if-line-lt-DIGITS.false),
-)
+pair_up-requires c = record { line_value = sym c.all_digits.ensures ∙ not-false _ c.if-not-all_digits.false-raw; line_in_bounds = omega (arith, length-take-le 4 c.args.line.now c.if-line-lt-DIGITS.false) }
 
 pub returns : goal.returns
 returns c = front-number _ _ c.if-line-lt-DIGITS.false c.pair_up.ensures c.number_of.ensures
