@@ -1,11 +1,12 @@
 #!/usr/bin/env python3
 """Brings the must-fail edits and their twins to today's spelling, after tools/port_names.py has run.
 
-usage: python3 tools/port_edits.py COMMIT     at the top of the repository; COMMIT is where the port begins
+usage: python3 tools/port_edits.py COMMIT     at the top of the repository, once; COMMIT is where the port begins
 
 An edit whose old texts still stand once is kept as it is. Of any other the texts are respelled as the files were; what an import brings
-in is asked of today's import of that module. Where the respelled text doesn't stand either, the line that it lay in is looked up in
-COMMIT's file and set beside today's, and the edit is named as one to be done by hand.
+in is put at the head of today's import of that module. Where the respelled text doesn't stand either, the line that it lay in is looked
+up in COMMIT's file and set beside today's, and the edit is named as one to be done by hand. The twins go into a folder of their own,
+CRATE/twins, since all that lies in must-fail/ is tried as an edit.
 """
 
 import difflib
@@ -147,6 +148,9 @@ def main():
             said += ["old: " + pair[1], "new: " + pair[2] if pair[2] else "new:"]
         with open(path, "w", encoding="utf-8") as f:
             f.write("\n".join(said) + "\n")
+    for path in glob.glob("crates/*/must-fail/*.twin"):
+        os.makedirs(path.replace("/must-fail/", "/twins/").rpartition("/")[0], exist_ok=True)
+        os.rename(path, path.replace("/must-fail/", "/twins/"))
     print(f"port_edits: {kept} kept, {turned} turned, {left} by hand")
 
 

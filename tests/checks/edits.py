@@ -5,8 +5,8 @@
 # counts: edits read
 """What each must-fail edit is refused for, by the logs that `rt ci` or `rt must-fail` leaves in target/must-fail. An edit must change an
 answer and keep the shape. So its first error is no missing name or field, nothing that does not parse, and stands in no definition. If
-it stands in a proof, and not in a case or claim, perhaps any other text there would be refused: then a twin stands beside the edit,
-CRATE/must-fail/NAME.twin, which has the form of an edit, changes the same place and means the same. edits-without-twin.txt lists the
+it stands in a proof, and not in a case or claim, perhaps any other text there would be refused: then the edit has a twin,
+CRATE/twins/NAME.twin, which has the form of an edit, changes the same place and means the same. edits-without-twin.txt lists the
 edits that have none, each with the reason; a line that is not needed any more must go. As long as a line says that no twin is written
 yet, what is wrong with its edit, and that the line is not needed, is only noted. --long tries the twins: each must be proved. --write
 writes the list for the logs as they are: it keeps the reasons, and where there is none it says so."""
@@ -38,7 +38,8 @@ class Wrong(Exception):
 
 def edits_in(root, suffix='.edit'):
     """The files of that kind: crate, name and path."""
-    return [(path.parts[-3], path.stem, path) for path in sorted(root.glob('crates/*/must-fail/*' + suffix))]
+    folder = 'twins' if suffix == '.twin' else 'must-fail'
+    return [(path.parts[-3], path.stem, path) for path in sorted(root.glob('crates/*/%s/*%s' % (folder, suffix)))]
 
 
 def replacements(path):
@@ -221,7 +222,8 @@ def self_test():
                     at.parent.mkdir(parents=True, exist_ok=True)
                     at.write_text(log, encoding='utf-8')
             for name in twins:
-                twin = root / 'crates/a/must-fail' / (name + '.twin')
+                twin = root / 'crates/a/twins' / (name + '.twin')
+                twin.parent.mkdir(parents=True, exist_ok=True)
                 twin.write_text('# right\nfile: src/lib.rt\nold: 1\nnew: 0 + 1\n', encoding='utf-8')
             (root / LIST).parent.mkdir(parents=True, exist_ok=True)
             (root / LIST).write_text(HEAD + ''.join(line + '\n' for line in listed), encoding='utf-8')
@@ -260,7 +262,7 @@ def self_test():
         made(twins=('by_proof',), listed=())
         write(root)
         test.says('the list written', 'a/by_search | %s\na/listed | %s\n' % (NOT_YET, NOT_YET), (root / LIST).read_text(encoding='utf-8'))
-        twin = root / 'crates/a/must-fail/by_proof.twin'
+        twin = root / 'crates/a/twins/by_proof.twin'
         (root / 'src').mkdir()
         (root / 'src/lib.rt').write_text('a 1 b', encoding='utf-8')
         applied(twin, root)

@@ -127,7 +127,7 @@ def sources(path, text):
         if folder in ('specs', 'src'):
             kind = {'specs': 'definitions', 'src': 'code'}[folder]
             return [(kind, '%s/%s' % (crate, rest), text)]
-        if folder == 'must-fail':
+        if folder in ('must-fail', 'twins'):
             comment = '\n'.join(line for line in text.splitlines() if line.startswith('#'))
             return [('edits', '%s/%s' % (crate, rest), comment), (None, '', text)]
     if parts[0] == 'tests' and parts[-1] == 'README.md':
