@@ -26,14 +26,15 @@ slice_bounds-add_members-end c =
     omega (
       arith,
       c.requires.width_le_packet_limit,
-      length-take c.args.width c.copy_out.new.1.1.1.0,
+      length-take c.args.width c.copy_out.new.out,
     )
 
 pub add_members-requires : goal.add_members-requires
-add_members-requires c = (
-  c.requires.may_mend.within.laid.octets,
-  omega (arith, c.requires.width_le_packet_limit, length-take c.args.width c.copy_out.new.1.1.1.0),
-)
+add_members-requires c =
+    record {
+      octets_len = c.requires.may_mend.within.laid.octets;
+      sum_len_bound = omega (arith, c.requires.width_le_packet_limit, length-take c.args.width c.copy_out.new.out);
+    }
 
 pub returns : goal.returns
 unfolding zeros
