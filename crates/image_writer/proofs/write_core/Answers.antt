@@ -45,7 +45,7 @@ put_rows-end-requires c =
     let pre = c.requires in
     let told = c.in_ranges.ensures in
     let inside = c.if-not-in_ranges.false-raw in
-    let room = write-room session told inside pre c.rows_size.ensures c.if-out-size.false in record { table_fits = table_fits session told inside pre; octets_len = pre.1.0; messages_len = pre.1.1; room = room-rest _ c.put_first-first.ensures room }
+    let room = write-room session told inside pre c.rows_size.ensures c.if-out-size.false in record { table_fits = table_fits session told inside pre; octets_len = pre.octets_len; messages_len = pre.messages_len; room = room-rest _ c.put_first-first.ensures room }
 
 pub returns : goal.returns
 returns c =

@@ -23,11 +23,11 @@ lay_messages-requires c =
 pub returns-then-ahead : goal.returns-then-ahead
 returns-then-ahead c =
     let pre = c.requires in
-    lay-ahead c.args.base pre.0 pre.1.0 pre.1.1 c.place_of-place.ensures refl c.lay_kept.ensures
+    lay-ahead c.args.base pre.k_lt_kept_ahead pre.line_fits pre.lengths c.place_of-place.ensures refl c.lay_kept.ensures
     c.if-ahead.true refl c.wide.ensures c.lay_messages.ensures c.set_held.ensures
 
 pub returns-else-ahead : goal.returns-else-ahead
 returns-else-ahead c =
     let pre = c.requires in
-    lay-before c.args.base pre.0 pre.1.0 pre.1.1 c.place_of-place.ensures refl c.lay_kept.ensures
+    lay-before c.args.base pre.k_lt_kept_ahead pre.line_fits pre.lengths c.place_of-place.ensures refl c.lay_kept.ensures
     c.if-ahead.false

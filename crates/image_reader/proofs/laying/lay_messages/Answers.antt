@@ -12,10 +12,10 @@ pub lay_message-requires : goal.lay_message-requires
 lay_message-requires c =
     let inv = c.loop-i.invariant in
     let pre = c.requires in
-    let long = pre.0 in
-    let octets = pre.1.0 in
-    let small = pre.1.1.0 in
-    let fit = pre.1.1.1 in
+    let long = pre.table_len in
+    let octets = pre.messages_len in
+    let small = pre.j_lt_slots_heard in
+    let fit = pre.messages_fit in
     let more = c.loop-i-test.true in record { table_len = laying-long inv long; slot_lt_slots_messages = laying-place inv small long octets fit more; has_slot = laying-slot inv small long octets fit more; part_inside = laying-part inv small long octets fit more }
 
 pub loop-i-preserved : goal.loop-i-preserved

@@ -11,7 +11,7 @@ pub read_lines-requires : goal.read_lines-requires
 read_lines-requires c =
     let head = c.first_line-first.ensures in
     let so = not-false _ c.if-not-read.false-raw in
-    let pre = c.requires in record { from_in_bounds = head-inside head so; limit_le_packet_limit = pre.0; lengths = pre.1.sized }
+    let pre = c.requires in record { from_in_bounds = head-inside head so; limit_le_packet_limit = pre.limit_le_packet_limit; lengths = pre.cleared.sized }
 
 pub returns-in_default : goal.returns-in_default
 returns-in_default c =

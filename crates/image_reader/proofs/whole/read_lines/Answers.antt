@@ -14,16 +14,16 @@ slice_bounds-read_line-end-in-loop-k c = c.loop-k.invariant.long
 pub read_line-requires : goal.read_line-requires
 read_line-requires c =
     let inv = c.loop-k.invariant in
-    let pre = c.requires in record { limit_le_packet_limit = pre.1.0; k_lt_kept_ahead = c.loop-k-test.true; line_len = sym inv.long; lengths = inv.sized }
+    let pre = c.requires in record { limit_le_packet_limit = pre.limit_le_packet_limit; k_lt_kept_ahead = c.loop-k-test.true; line_len = sym inv.long; lengths = inv.sized }
 
 pub shape_of-table-in-Misshapen : goal.shape_of-table-in-Misshapen
-shape_of-table-in-Misshapen c = c.read_line.auto.1.1.1.1.1.1.0 ∙ reading-table c.loop-k.invariant
+shape_of-table-in-Misshapen c = c.read_line.auto.table ∙ reading-table c.loop-k.invariant
 
 pub shape_of-octets-in-Misshapen : goal.shape_of-octets-in-Misshapen
-shape_of-octets-in-Misshapen c = c.read_line.auto.1.1.1.1.1.1.1.0 ∙ reading-octets c.loop-k.invariant
+shape_of-octets-in-Misshapen c = c.read_line.auto.octets ∙ reading-octets c.loop-k.invariant
 
 pub shape_of-messages-in-Misshapen : goal.shape_of-messages-in-Misshapen
-shape_of-messages-in-Misshapen c = c.read_line.auto.1.1.1.1.1.1.1.1.0 ∙ reading-messages c.loop-k.invariant
+shape_of-messages-in-Misshapen c = c.read_line.auto.messages ∙ reading-messages c.loop-k.invariant
 
 pub returns-in-Misshapen : goal.returns-in-Misshapen
 returns-in-Misshapen c = search readings
@@ -34,7 +34,7 @@ overflow_add-at c = omega (arith, reading-ends c.loop-k.invariant c.loop-k-test.
 pub loop-k-preserved : goal.loop-k-preserved
 loop-k-preserved c =
     reading-turn c.loop-k.invariant c.loop-k-test.true c.read_line.ensures c.in-At.is
-    c.read_line.auto.1.1.1.1.1.0
+    c.read_line.auto.line
 
 pub shape_of-table : goal.shape_of-table
 shape_of-table c = search (reading-table, rules)

@@ -14,8 +14,8 @@ put_item-end-requires c =
     let pre = c.requires in
     message-asked c.args.table.now c.args.messages.now c.args.heard c.loop-i.i
     c.message_size_at-size.ensures
-    pre.0 pre.1.0 pre.1.1.0 (omega arith)
-    (going-room pre.1.1.1.1 c.loop-i.invariant more)
+    pre.table_fits pre.messages_len pre.heard_lt_slots_heard (omega arith)
+    (going-room pre.room c.loop-i.invariant more)
 
 pub loop-i-preserved : goal.loop-i-preserved
 loop-i-preserved c =

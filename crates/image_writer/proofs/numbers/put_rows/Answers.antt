@@ -10,8 +10,8 @@ loop-p-init c = going_start c.requires.room
 pub put_row-end-requires : goal.put_row-end-requires
 put_row-end-requires c =
     let pre = c.requires in
-    let room = going-room pre.1.1.1 c.loop-p.invariant c.loop-p-test.true in
-    let row = c.row_at-row.ensures in record { table_fits = pre.0; octets_len = pre.1.0; messages_len = pre.1.1.0; row_fits = row.fits; room = told-room row c.args.octets.now c.args.messages.now room }
+    let room = going-room pre.room c.loop-p.invariant c.loop-p-test.true in
+    let row = c.row_at-row.ensures in record { table_fits = pre.table_fits; octets_len = pre.octets_len; messages_len = pre.messages_len; row_fits = row.fits; room = told-room row c.args.octets.now c.args.messages.now room }
 
 pub loop-p-preserved : goal.loop-p-preserved
 loop-p-preserved c =

@@ -13,7 +13,7 @@ loop-i-init c = counted_start
 pub item_size-requires : goal.item_size-requires
 item_size-requires c =
     let pre = c.requires in
-    let short = message-short c.args.table.now c.args.heard c.loop-i.i pre.0 pre.1.0 (omega arith)
+    let short = message-short c.args.table.now c.args.heard c.loop-i.i pre.table_fits pre.heard_lt_slots_heard (omega arith)
     c.message_size_at-octets.ensures in
     omega arith
 
