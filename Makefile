@@ -1,4 +1,4 @@
-# The library for a C program: target/host/libtubarexi.a, proved by `rt staticlib host` and built with include/tubarexi.c, and
+# The library for a C program: target/host/libtubarexi.a, proved by `rt lib` in crates/host_c and built with include/tubarexi.c, and
 # include/tubarexi.h. `make` builds it; `make install PREFIX=/usr DESTDIR=/somewhere` installs both, with a pkg-config file; LIBDIR is where
 # the library goes. `make check` compares C programs over the library with the independent program. The version is the header's.
 # Once `make` has built the library, `make install` needs neither rt in PATH nor leave to write here, as it may be under sudo.
