@@ -1,6 +1,6 @@
 -- Each contract cites its promise, so what a caller learns is the promise itself. Assumes nothing.
-use Rattle.demands.specs.Contracts.LibraryContracts.{LibraryContracts}
-use Rattle.demands.specs.Contracts.HostContracts.{HostContracts}
+use Rattle.demands.specs.CallContracts.LibraryContracts.{LibraryContracts}
+use Rattle.demands.specs.CallContracts.HostContracts.{HostContracts}
 
 pub library-contracts : LibraryContracts
 library-contracts =

@@ -8,8 +8,8 @@ use Rattle.trace_replay.specs.Claims as replays
 use Rattle.trace_compare.specs.Claims as comparisons
 use Rattle.sender_to_modem.specs.Claims as sold_line
 use Rattle.host.specs.Claims as host
-use Rattle.demands.specs.Contracts.LibraryContracts.{LibraryContracts}
-use Rattle.demands.specs.Contracts.HostContracts.{HostContracts}
+use Rattle.demands.specs.CallContracts.LibraryContracts.{LibraryContracts}
+use Rattle.demands.specs.CallContracts.HostContracts.{HostContracts}
 use Rattle.demands.specs.Demand1.Demand1.{Demand1}
 use Rattle.demands.specs.Demand1.CutShortExample.{CutShortExample}
 use Rattle.demands.specs.Demand2.Demand2.{Demand2}

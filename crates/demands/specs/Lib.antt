@@ -10,5 +10,5 @@ pub mod Requests
 pub mod Sharp
 pub mod RunInstances
 pub mod PromiseCases
-pub mod Contracts
+pub mod CallContracts
 pub mod Claims
