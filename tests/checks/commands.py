@@ -18,11 +18,14 @@ from support.places import BIN, TOP
 RT = '''#!/bin/sh
 case $1 in
 version) echo "${RT_VERSION:-stub}" ;;
-check)
+run)
     waited=0
-    until [ -z "$RT_WAITS" ] || [ -s errors ] || [ "$waited" = 300 ]; do sleep 1; waited=$((waited + 1)); done
-    printf "$RT_SAYS"
-    exit "${RT_CHECK:-0}"
+    until [ -z "$RT_WAITS" ] || [ -s ../../errors ] || [ "$waited" = 300 ]; do sleep 1; waited=$((waited + 1)); done
+    printf "$RT_SAYS" >&2
+    mkdir -p out
+    echo program >out/receive
+    echo "what the program writes"
+    exit "${RT_RUN:-0}"
     ;;
 esac
 '''
@@ -30,21 +33,24 @@ RUN = '''#!/bin/sh
 echo "$* ran"
 [ "$1" != explain ] || cat
 '''
-SAME = 'rt: one proved (unchanged since it was last proved)\\nrt: receive proved (unchanged since it was last proved)\\n'
+RUNS = 'rt: running out/%s; to give it other input, run that file yourself\\n'
+SAME = 'rt: nothing has changed since the last proved build, by out/receive.stamp, so nothing is checked now\\n' + RUNS % 'receive'
 BEGUN = 'receive: proving what it needs, 3 crates, some minutes the first time ..\n'
-ANEW = 'rt: one proved (unchanged since it was last proved)\\nrt: two proved (5 s)\\nrt: receive proved (19 s)\\n'
-FAILED = 'rt: one NOT PROVED (exit 1, 3 s)\n'
+ANEW = ''.join('fn %s::f: proved\\ncrate %s: modules loaded=0 checked=3\\nlogic=proved functions=1\\n' % (name, name)
+               for name in ('two', 'receive')) + RUNS % 'receive'
+FAILED = 'fn one::f: not proved\nlogic=not-proved\nrt: the library one did not build, so nothing above it was checked\n'
 
 
 def with_stubs(directory):
     """The scripts at the top in a folder of their own, with stubs in place of rt and bin/run; what to run them with."""
-    for name, text in (('path/rt', RT), ('bin/run', RUN), ('toolchain', 'stub\n'), ('crates.txt', 'one:\ntwo: one\nreceive: io two\n'),
-                       ('trace', '\n')):
+    for name, text in (('path/rt', RT), ('bin/run', RUN), ('toolchain', 'stub\n'), ('trace', '\n'),
+                       ('crates.txt', 'one:\ntwo: one\nreceive: json two\nexplain: two\nreplay: one\n'),
+                       *(('crates/%s/src/main.rt' % name, name) for name in ('one', 'two', 'receive', 'explain', 'replay'))):
         path = directory / name
         path.parent.mkdir(parents=True, exist_ok=True)
         path.write_text(text)
         path.chmod(0o755)
-    for name in ('receive', 'explain', 'replay', 'bin/prove', 'bin/toolchain'):
+    for name in ('receive', 'explain', 'replay', 'bin/prove', 'bin/sum', 'bin/toolchain'):
         shutil.copy(TOP / name, directory / name)
     prove = (directory / 'bin/prove').read_text()
     (directory / 'bin/prove').write_text(prove.replace('quiet=3 ', 'quiet=${QUIET:-60} '))
@@ -52,9 +58,11 @@ def with_stubs(directory):
 
 
 def of_prove(test, directory):
-    """../receive runs what is proved alone, says on standard error that it proves, and nothing if there is nothing to say. The arguments of
-    ../explain are a packet (rule 19.10), and ../replay without a trace writes its usage (rule 21.10)."""
-    environment = with_stubs(pathlib.Path(directory))
+    """../receive runs what is proved alone, and asks rt only if something changed since; it says on standard error that it proves, and
+    nothing if there is nothing to say. The arguments of ../explain are a packet (rule 19.10), and ../replay without a trace writes its usage
+    (rule 21.10)."""
+    top = pathlib.Path(directory)
+    environment = with_stubs(top)
     usage = 'usage: ./' + (TOP / 'receive').read_text().splitlines()[1][2:] + '\n'
 
     def ends(name, status, written, command, **settings):
@@ -62,15 +70,27 @@ def of_prove(test, directory):
         command += ' >out 2>errors; status=$?; echo [; cat out; echo ,; cat errors; echo ]; exit $status'
         test.ends(name, status, written, ['sh', '-c', command], cwd=directory, env={**environment, 'RT_SAYS': SAME, **settings})
 
-    ends('all proved', 0, '[\nreceive ran\n,\n]\n', './receive')
-    each = BEGUN + 'receive: 2 of 3 proved: two\nreceive: 3 of 3 proved: receive\n'
+    def anew(*given, **settings):
+        """The same where no program was taken before."""
+        shutil.rmtree(top / 'target', ignore_errors=True)
+        ends(*given, **settings)
+
+    wrong = FAILED.replace('\n', '\\n')
+    anew('all proved', 0, '[\nreceive ran\n,\n]\n', './receive')
+    ends('all proved, and nothing changed', 0, '[\nreceive ran\n,\n]\n', './receive', RT_SAYS=wrong, RT_RUN='3')
+    each = BEGUN + 'receive: proved: two\nreceive: proved: receive\n'
+    (top / 'crates/two/src/main.rt').write_text('another text')
     ends('two proved anew', 0, '[\nreceive ran\n,\n%s]\n' % each, './receive', RT_SAYS=ANEW)
-    ends('a crate that takes long', 0, '[\nreceive ran\n,\n%s]\n' % BEGUN, './receive', QUIET='1', RT_WAITS='1')
-    ends('not proved', 3, '[\n,\n%sreceive: NOT PROVED, so it is not run: rt check receive ended with status 3\n]\n' % FAILED, './receive',
-         RT_SAYS=FAILED.replace('\n', '\\n'), RT_CHECK='3')
+    anew('a crate that takes long', 0, '[\nreceive ran\n,\n%s]\n' % BEGUN, './receive', QUIET='1', RT_WAITS='1')
+    anew('not proved', 3, '[\n,\n%sreceive: NOT PROVED, so it is not run: rt run in crates/receive ended with status 3\n]\n' % FAILED,
+         './receive', RT_SAYS=wrong, RT_RUN='3')
+    anew('a program with a status', 0, '[\nreceive ran\n,\n]\n', './receive', RT_RUN='2')
     ends('another toolchain', 0, 'other\n]\n', './receive', RT_VERSION='other')
     ends('help', 0, '[\n%s,\n]\n' % usage, './receive --help')
     ends('an argument that is none', 2, '[\n,\n%s]\n' % usage, './receive TRACE')
+    for name in ('explain', 'replay'):
+        test.ends('%s taken' % name, 0, '', ['sh', '-c', 'mkdir -p crates/%s/out && echo program >crates/%s/out/%s && bin/prove --take "$(bin/sum %s)" %s'
+                                             % (name, name, name, name, name)], cwd=directory, env=environment)
     ends('a packet as arguments', 0, '[\nexplain ran\nrepaired 06 00\n,\n]\n', './explain repaired 06 00')
     ends('a trace and numbers', 0, '[\nreplay %s/trace 2 0x5 ran\n,\n]\n' % directory, './replay trace 2 0x5')
     ends('no trace', 2, 'usage: ./replay TRACE NUMBER..', './replay')

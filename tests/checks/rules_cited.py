@@ -15,6 +15,7 @@ needs no edit or test of its own: the case is proved or run."""
 
 import argparse
 import collections
+import os
 import pathlib
 import re
 import shutil
@@ -110,11 +111,18 @@ def cited_in(text):
 
 
 def files(root):
-    """The files that may cite a rule, but for this one, the table and what is made (target/)."""
+    """The files that may cite a rule, but for this one, the table and what is made (target/, out/)."""
     tops = [path for path in sorted(root.iterdir()) if path.is_file()]
-    for path in tops + [path for place in PLACES for path in sorted((root / place).rglob('*'))]:
+    for path in tops + [path for place in PLACES for path in sorted(inside(root / place))]:
         if path.is_file() and path.suffix in TEXTS and path.name != SELF.name and path.relative_to(root).as_posix() != TABLE:
             yield path
+
+
+def inside(folder):
+    """All files of a folder, but for what rt makes (crates/NAME/out)."""
+    for at, folders, names in os.walk(folder):
+        folders[:] = [name for name in folders if name != 'out']
+        yield from (pathlib.Path(at) / name for name in names)
 
 
 def sources(path, text):

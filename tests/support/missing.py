@@ -14,10 +14,10 @@ UNAME = '#!/bin/sh\necho %s\n'
 RT = '''#!/bin/sh
 case $1 in
 version) echo "$RT_VERSION"; exit "${RT_STATUS:-0}" ;;
-staticlib) mkdir -p target/staticlib && echo "$RT_VERSION" >target/staticlib/libhost.a ;;
+lib) mkdir -p out && echo "$RT_VERSION" >out/libhost_c.a ;;
 esac
 '''
-NEEDED = 'awk', 'cat', 'cp', 'dirname', 'find', 'flock', 'grep', 'mkdir', 'mv', 'readlink', 'sed', 'sh', 'sha256sum', 'sort', 'xargs'
+NEEDED = 'awk', 'cat', 'cp', 'cut', 'dirname', 'find', 'flock', 'grep', 'mkdir', 'mv', 'readlink', 'sed', 'sh', 'sha256sum', 'sort', 'xargs'
 
 
 class Machine:
@@ -91,15 +91,20 @@ def of_scripts(test, top):
     """Without the toolchain nothing is called not proved: a library that is built is taken, everything else says what is missing."""
     without, with_rt = Machine(top, 'x86_64'), Machine(top, 'x86_64', rt=RT, gcc=COMPILER % ('x86_64', 0), ar='')
     none = 'no Rattle toolchain is here: rt is not in PATH\n'
-    test.ends('run without rt', 4, 'run: ' + none, [str(BIN / 'run'), str(BIN / 'run')], env=without.environment)
+    arm, started = Machine(top, 'aarch64'), [str(BIN / 'run'), str(BIN / 'run-host')]
+    test.ends('run without rt', 2, 'run-host NAME', started, env=without.environment)
+    test.ends('run without an emulator', 4, 'qemu-x86_64 is not here: in Debian the package qemu-user\n', started, env=arm.environment)
+    test.ends('run under an emulator', 0, 'emulated %s\n' % started[1], started,
+              env=arm.has(**{'qemu-x86_64': '#!/bin/sh\necho emulated "$@"\n'}).environment)
     test.ends('prove without rt', 4, 'receive: ' + none, [str(BIN / 'prove'), 'receive'], env=without.environment)
     test.ends('measure without valgrind', 4, 'valgrind is not here: in Debian the package valgrind\n',
               [sys.executable, str(TESTS / 'host/measure')], env=without.environment)
-    for name in ('build-host', 'c-tools'):
+    for name in ('build-host', 'c-tools', 'sum'):
         shutil.copy(BIN / name, top / 'bin' / name)
-    (top / 'crates').mkdir(), (top / 'include').mkdir()
-    for name in ('crates.txt', 'crates/one', 'include/tubarexi.c', 'include/tubarexi.h'):
-        (top / name).write_text('')
+    for name, text in (('crates.txt', 'one:\nhost_c staticlib: one\n'), ('crates/one/src/lib.rt', ''), ('crates/host_c/src/lib.rt', ''),
+                       ('include/tubarexi.c', ''), ('include/tubarexi.h', '')):
+        (top / name).parent.mkdir(parents=True, exist_ok=True)
+        (top / name).write_text(text)
     command, needed = ['bin/build-host'], 'host: rt is not in PATH: the Rattle toolchain is needed to prove and build libtubarexi.a\n'
     test.ends('build, nothing there, without rt', 4, needed, command, cwd=top, env=without.environment)
     subprocess.run(command, cwd=top, env={**with_rt.environment, 'RT_VERSION': 'one'}, stderr=subprocess.DEVNULL)
@@ -107,7 +112,7 @@ def of_scripts(test, top):
     test.ends('build, all there', 0, '0 []\none\n', quiet, cwd=top, env={**with_rt.environment, 'RT_VERSION': 'one'})
     test.ends('build, all there, without rt', 0, '0 []\none\n', quiet, cwd=top, env=without.environment)
     test.ends('build, another toolchain', 0, '..]\ntwo\n', quiet, cwd=top, env={**with_rt.environment, 'RT_VERSION': 'two'})
-    (top / 'crates/one').write_text('changed')
+    (top / 'crates/one/src/lib.rt').write_text('changed')
     test.ends('build, a source changed, without rt', 4, needed, command, cwd=top, env=without.environment)
 
 

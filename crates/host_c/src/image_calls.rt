@@ -1,4 +1,4 @@
-// Images of a receiving session (rules 20.18 and 20.19).
+// Images of a receiving session for C (rule 24.12).
 ghost use Rattle.host.specs.Image.{ImageHosted, RestoreHosted};
 
 use host::{AfterRestore, Head};

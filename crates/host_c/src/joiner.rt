@@ -1,4 +1,4 @@
-// The joiner (rules 16.1 to 16.16).
+// The joiner for C (rule 24.3).
 ghost use Rattle.host.specs.Joiner.{memory_of, JoinerMade, FieldHosted, LossHosted};
 
 use frame::Joiner;

@@ -1,4 +1,4 @@
-// Packets (rules 6.13, 6.20 and 7.1).
+// Packets for C (rule 24.5).
 ghost use Rattle.host.specs.Packet.{PacketHosted, WriteHosted};
 
 use host_answers::{PacketFound, Wrote};

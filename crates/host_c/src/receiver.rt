@@ -1,4 +1,4 @@
-// The receiving session (rules 9.1 to 13.11). What a call requires or checks is what the function of `host` with its name does.
+// The receiving session for C: what a call requires, and what it does, is what the function of `host` with its name says (rule 24.1).
 ghost use Rattle.session_held.specs.Table.{lent_by};
 ghost use Rattle.session_held.specs.Laid.{InRanges};
 ghost use Rattle.session_held.specs.Promise.{Fresh};

@@ -1,4 +1,4 @@
-// The sending session (rules 15.1 to 15.13).
+// The sending session for C (rules 24.3 and 24.4).
 ghost use Rattle.sender.specs.Inner.Held.{Within};
 ghost use Rattle.sender.specs.Promise.{SenderMade};
 ghost use Rattle.host.specs.Sender.{sender_in, SenderRanges, SendHosted};

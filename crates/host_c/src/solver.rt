@@ -1,4 +1,4 @@
-// Solving (rules 14.1 to 14.8).
+// Solving for C (rules 24.3 and 24.4).
 ghost use Rattle.session_held.specs.Table.{lent_by};
 ghost use Rattle.session_held.specs.Laid.{InRanges};
 ghost use Rattle.host.specs.Receiver.{session_in};
