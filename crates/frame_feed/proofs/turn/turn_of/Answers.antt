@@ -11,7 +11,7 @@ pub offset_bounds-fields-turn : goal.offset_bounds-fields-turn
 offset_bounds-fields-turn c =
     let long : length c.read-read.result.fields ≡ fields_limit = search mapped-long in
     let there =
-    turn-there c.args.edition (state_of c.args.kind) _ c.Ending-of.ensures c.read-read.ensures
+    turn-there c.args.edition (state_of c.args.kind) _ c.ending_of-ending.ensures c.read-read.ensures
     c.in-Packet.is
     c.if-turn-count.true long in
     omega arith
@@ -20,7 +20,7 @@ pub bounds-fields-turn : goal.bounds-fields-turn
 bounds-fields-turn c =
     let long : length c.read-read.result.fields ≡ fields_limit = search mapped-long in
     let there =
-    turn-there c.args.edition (state_of c.args.kind) _ c.Ending-of.ensures c.read-read.ensures
+    turn-there c.args.edition (state_of c.args.kind) _ c.ending_of-ending.ensures c.read-read.ensures
     c.in-Packet.is
     c.if-turn-count.true long in
     omega arith
