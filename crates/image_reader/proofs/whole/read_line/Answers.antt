@@ -9,13 +9,13 @@ use Rattle.image_reader.proofs.whole.read_line.Goals as goal
 pub slice_bounds-number_in-end : goal.slice_bounds-number_in-end
 slice_bounds-number_in-end c =
     let take = c.take_line in
-    omega (arith, taken-fits take.ensures c.in-Octets.is, take.auto.line)
+    omega (arith, taken-fits take.ensures c.in-Octets.is, take.auto.out)
 
 pub slice_bounds-number_in-end-in-Octets : goal.slice_bounds-number_in-end-in-Octets
 slice_bounds-number_in-end-in-Octets c =
     let take = c.take_line in
     let fits = taken-fits take.ensures c.in-Octets.is in
-    sym (length-take-le _ take.new.line (omega (arith, take.auto.line)))
+    sym (length-take-le _ take.new.out (omega (arith, take.auto.out)))
 
 pub returns-then-not-read : goal.returns-then-not-read
 returns-then-not-read c =
@@ -25,13 +25,13 @@ returns-then-not-read c =
 pub slice_bounds-lay-end : goal.slice_bounds-lay-end
 slice_bounds-lay-end c =
     let take = c.take_line in
-    omega (arith, taken-fits take.ensures c.in-Octets.is, take.auto.line)
+    omega (arith, taken-fits take.ensures c.in-Octets.is, take.auto.out)
 
 pub slice_bounds-lay-end-in-Octets : goal.slice_bounds-lay-end-in-Octets
 slice_bounds-lay-end-in-Octets c =
     let take = c.take_line in
     let fits = taken-fits take.ensures c.in-Octets.is in
-    sym (length-take-le _ take.new.line (omega (arith, take.auto.line)))
+    sym (length-take-le _ take.new.out (omega (arith, take.auto.out)))
 
 pub lay-requires : goal.lay-requires
 lay-requires c = let pre = c.requires in record { k_lt_kept_ahead = pre.k_lt_kept_ahead; line_fits = line-fits pre.limit_le_packet_limit c.number_in-number.ensures (not-false _ c.if-not-read.false-raw); lengths = pre.lengths }
