@@ -18,7 +18,7 @@ pub rows_size-requires : goal.rows_size-requires
 rows_size-requires c =
     let args = c.args in
     let session = lent args.base args.counts args.table.now args.octets.now args.messages.now in
-    table_fits session c.in_ranges.ensures c.if-not-in_ranges.false-raw c.requires
+    table_fits session c.in_ranges.ensures c.if-not-in_ranges.false-raw (c.requires.table_len, (c.requires.octets_len, c.requires.messages_len))
 
 pub overflow_add-size-2 : goal.overflow_add-size-2
 overflow_add-size-2 c = omega (arith, c.rows_size.ensures.few)
@@ -28,7 +28,7 @@ returns-then-out-size c =
     let args = c.args in
     let session = lent args.base args.counts args.table.now args.octets.now args.messages.now in
     write-full session c.in_ranges.ensures c.if-not-in_ranges.false-raw
-    c.requires c.rows_size.ensures {old = args.out.now} c.new-then-out-size.ensures (omega (arith, c.if-out-size.true))
+    (c.requires.table_len, (c.requires.octets_len, c.requires.messages_len)) c.rows_size.ensures {old = args.out.now} c.new-then-out-size.ensures (omega (arith, c.if-out-size.true))
 
 pub put_first-first-requires : goal.put_first-first-requires
 put_first-first-requires c =
@@ -36,20 +36,20 @@ put_first-first-requires c =
     let session = lent args.base args.counts args.table.now args.octets.now args.messages.now in
     room-front _ _
     (write-room session c.in_ranges.ensures c.if-not-in_ranges.false-raw
-    c.requires c.rows_size.ensures c.if-out-size.false)
+    (c.requires.table_len, (c.requires.octets_len, c.requires.messages_len)) c.rows_size.ensures c.if-out-size.false)
 
 pub put_rows-end-requires : goal.put_rows-end-requires
 put_rows-end-requires c =
     let args = c.args in
     let session = lent args.base args.counts args.table.now args.octets.now args.messages.now in
-    let pre = c.requires in
+    let long = (c.requires.table_len, (c.requires.octets_len, c.requires.messages_len)) in
     let told = c.in_ranges.ensures in
     let inside = c.if-not-in_ranges.false-raw in
-    let room = write-room session told inside pre c.rows_size.ensures c.if-out-size.false in record { table_fits = table_fits session told inside pre; octets_len = pre.octets_len; messages_len = pre.messages_len; room = room-rest _ c.put_first-first.ensures room }
+    let room = write-room session told inside long c.rows_size.ensures c.if-out-size.false in record { table_fits = table_fits session told inside long; octets_len = c.requires.octets_len; messages_len = c.requires.messages_len; room = room-rest _ c.put_first-first.ensures room }
 
 pub returns : goal.returns
 returns c =
     let args = c.args in
     let session = lent args.base args.counts args.table.now args.octets.now args.messages.now in
     write_done session c.in_ranges.ensures c.if-not-in_ranges.false-raw
-    c.requires c.put_first-first.ensures c.put_rows-end.ensures
+    (c.requires.table_len, (c.requires.octets_len, c.requires.messages_len)) c.put_first-first.ensures c.put_rows-end.ensures

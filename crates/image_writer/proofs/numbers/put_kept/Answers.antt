@@ -9,9 +9,11 @@ pub put_item-requires : goal.put_item-requires
 put_item-requires c =
     let t = c.args.table.now in
     let row = c.args.row in
+    let asked =
     kept-asked t row c.args.octets.now c.size_at-size.ensures
     (front-put t row c.state_at.ensures c.note_at-note.ensures c.put_digits-next.ensures)
-    c.requires.table_fits c.requires.octets_len c.requires.row_fits c.requires.room
+    c.requires.table_fits c.requires.octets_len c.requires.row_fits c.requires.room in
+    record { has_slot = asked.0; size_le_packet_limit = asked.1.0; room = asked.1.1 }
 
 pub returns : goal.returns
 returns c =

@@ -12,10 +12,12 @@ pub put_item-end-requires : goal.put_item-end-requires
 put_item-end-requires c =
     let more = c.loop-i-test.true in
     let pre = c.requires in
+    let asked =
     message-asked c.args.table.now c.args.messages.now c.args.heard c.loop-i.i
     c.message_size_at-size.ensures
     pre.table_fits pre.messages_len pre.heard_lt_slots_heard (omega arith)
-    (going-room pre.room c.loop-i.invariant more)
+    (going-room pre.room c.loop-i.invariant more) in
+    record { has_slot = asked.0; size_le_packet_limit = asked.1.0; room = asked.1.1 }
 
 pub loop-i-preserved : goal.loop-i-preserved
 loop-i-preserved c =
