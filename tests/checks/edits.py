@@ -3,13 +3,13 @@
 # self-test: beside
 # says: a must-fail edit is refused, but not for what its name says, or its twin is missing
 # counts: edits read
-"""What each must-fail edit is refused for, by the logs that `rt ci` or `rt must-fail` leaves in target/must-fail. An edit must change an
+"""What each must-fail edit is refused for, by the line that `rt ci` or `rt must-fail` writes of it (target/rt-ci.log). An edit must change an
 answer and keep the shape. So its first error is no missing name or field, nothing that does not parse, and stands in no definition. If
 it stands in a proof, and not in a case or claim, perhaps any other text there would be refused: then the edit has a twin,
 CRATE/twins/NAME.twin, which has the form of an edit, changes the same place and means the same. edits-without-twin.txt lists the
 edits that have none, each with the reason; a line that is not needed any more must go. As long as a line says that no twin is written
 yet, what is wrong with its edit, and that the line is not needed, is only noted. --long tries the twins: each must be proved. --write
-writes the list for the logs as they are: it keeps the reasons, and where there is none it says so."""
+writes the list for the log as it is: it keeps the reasons, and where there is none it says so."""
 
 import argparse
 import pathlib
@@ -24,7 +24,9 @@ from support.failing import Cases
 from support.places import TOP
 from support.proving import FOLLOWS, Broken, Prover, copied, errors_in, part_of, place_for_a_copy
 
-LIST = 'tests/checks/edits-without-twin.txt'
+LIST, LOG = 'tests/checks/edits-without-twin.txt', 'target/rt-ci.log'
+TRIED = re.compile(r'^rt: must-fail (\S+)\.edit: (?!NOT TRIED)(.*)$', re.M)
+REFUSED = re.compile(r'refused, as it must be(?: \(only ([^:]*):[^)]*\))?(?:: (.*))?$')
 NOT_YET = 'no twin is written yet'
 HEAD = '# Edits whose first error is in a proof, and not in a case or claim, and that have no twin: CRATE/NAME | the reason.\n'
 FAULTS = (('a name that is not there', re.compile(r'is not in scope')),
@@ -80,14 +82,25 @@ def reasons(root):
     return found
 
 
-def first_error(root, crate, name):
-    """Where an edit is refused first, and what is said there."""
-    log = root / 'target/must-fail' / crate / name / '.log'
-    if not log.exists():
-        raise Wrong('%s/%s has no log in target/must-fail: rt must-fail %s writes it' % (crate, name, crate))
-    errors = errors_in(log.read_text(encoding='utf-8', errors='replace'))
+def told(root):
+    """What the last line of the log on each edit says."""
+    log = root / LOG
+    return dict(TRIED.findall(log.read_text(encoding='utf-8', errors='replace') if log.exists() else ''))
+
+
+def first_error(said, crate, name):
+    """Where an edit is refused first, and what is said there, by what the log says of all."""
+    name = '%s/%s' % (crate, name)
+    if name not in said:
+        raise Wrong('%s has no line in %s: rt must-fail %s >>%s writes it' % (name, LOG, crate, LOG))
+    refused = REFUSED.match(said[name])
+    if not refused:
+        raise Wrong('%s is not refused: %s' % (name, said[name][:200]))
+    if refused[1]:
+        raise Wrong('%s is refused, but only %s: %s' % (name, refused[1], (refused[2] or '')[:200]))
+    errors = errors_in(refused[2] or '')
     if not errors:
-        raise Wrong('%s/%s: its log has no error' % (crate, name))
+        raise Wrong('%s: its line has no error: %s' % (name, said[name][:200]))
     return errors[0]
 
 
@@ -103,10 +116,10 @@ def fault_of(crate, name, file, line, text):
 
 def read(root):
     """For each edit the part where its first error is, and where; and what is wrong with edits whatever stands beside them, by name."""
-    found, wrong = {}, {}
+    found, wrong, said = {}, {}, told(root)
     for crate, name, _ in edits_in(root):
         try:
-            file, line, text = first_error(root, crate, name)
+            file, line, text = first_error(said, crate, name)
         except Wrong as missing:
             wrong['%s/%s' % (crate, name)] = str(missing)
             continue
@@ -125,18 +138,18 @@ def twins_in(root):
 
 def check(root):
     """The edits, their twins and the list: a line for each edit, then all that is wrong."""
-    (edits, faults), told, twins = read(root), reasons(root), twins_in(root)
-    for name in [name for name in faults if told.get(name) == NOT_YET and 'no log' not in faults[name]]:
+    (edits, faults), listed, twins = read(root), reasons(root), twins_in(root)
+    for name in [name for name in faults if listed.get(name) == NOT_YET and 'has no line' not in faults[name]]:
         print('note: %s' % faults.pop(name))
     wrong = list(faults.values())
     there = {'%s/%s' % (crate, name) for crate, name, _ in edits_in(root)}
     wrong += ['%s.twin stands beside no edit' % twin for twin in sorted(twins - there)]
     for name, (part, where) in edits.items():
-        if part == 'proof' and name not in twins and name not in told:
+        if part == 'proof' and name not in twins and name not in listed:
             wrong.append('%s is refused first in a proof (%s): it needs a twin, or a line in %s' % (name, where, LIST))
         else:
             yield '%s is refused by a %s, %s%s' % (name, part, where, '; it has a twin' if name in twins else '')
-    for name, reason in told.items():
+    for name, reason in listed.items():
         why = 'there is no such edit' if name not in there else 'it has a twin' if name in twins else None
         if not why and name in edits and edits[name][0] != 'proof':
             why = 'a %s refuses it' % edits[name][0]
@@ -150,8 +163,8 @@ def check(root):
 
 def write(root):
     """Writes the list for the logs as they are."""
-    edits, told, twins = read(root)[0], reasons(root), twins_in(root)
-    lines = ['%s | %s\n' % (name, told.get(name, NOT_YET)) for name, (part, _) in edits.items() if part == 'proof' and name not in twins]
+    edits, listed, twins = read(root)[0], reasons(root), twins_in(root)
+    lines = ['%s | %s\n' % (name, listed.get(name, NOT_YET)) for name, (part, _) in edits.items() if part == 'proof' and name not in twins]
     (root / LIST).write_text(HEAD + ''.join(lines), encoding='utf-8')
 
 
@@ -193,14 +206,12 @@ def run(lines):
     print('%d passed, 0 failed' % passed)
 
 
-CASCADE = 't/specs/A.antt:9:1: error: `b`: `a` %s\n' % FOLLOWS
 SAMPLE = {
-    'crates/a/must-fail/by_case.edit': 't/proofs/Cases.antt:3:1: error: `cases`: `refl` does not fit\n',
-    'crates/a/must-fail/by_claim.edit': CASCADE + 't/proofs/Claims.antt:3:1: error: `claims`: two types differ\n',
-    'crates/a/must-fail/by_proof.edit': 't/proofs/f/Proof.antt:3:1: error: `returns`: no proof was found\n',
-    'crates/a/must-fail/by_search.edit': 'note: what antt said of a `search` in the proof that rattle made: t/src/lib.rt:16:12: `returns`:'
-                                         ' no\n',
-    'crates/a/must-fail/listed.edit': 't/proofs/Laws.antt:3:1: error: `law`: two types differ\n',
+    'by_case': ': ./proofs/Cases.antt:3:1: error: `cases`: `refl` does not fit',
+    'by_claim': ': ./proofs/Claims.antt:3:1: error: `claims`: two types differ',
+    'by_proof': ': ./proofs/f/Answers.antt:3:1: error: `returns`: `search`: no proof of',
+    'by_search': ': note: src/lib.rt:16:12: it is not proved that what the function ensures holds when it returns (`returns`)',
+    'listed': ': ./proofs/Laws.antt:3:1: error: `law`: two types differ',
 }
 
 
@@ -213,14 +224,17 @@ def self_test():
         def made(logs=(), twins=('by_proof', 'by_search'), listed=('a/listed | it has no other form',)):
             """The tree, with other logs; a check of it."""
             shutil.rmtree(root, ignore_errors=True)
-            for name, log in {**SAMPLE, **dict(logs)}.items():
-                edit = root / name
+            lines = ['rt: a proved', 'rt: must-fail a/by_case.edit: refused, as it must be: an earlier line']
+            for name, said in {**SAMPLE, **dict(logs)}.items():
+                edit = root / 'crates/a/must-fail' / (name + '.edit')
                 edit.parent.mkdir(parents=True, exist_ok=True)
                 edit.write_text('# wrong\nfile: src/lib.rt\nold: 1\nnew: 2\n', encoding='utf-8')
-                if log is not None:
-                    at = root / 'target/must-fail/a' / edit.stem / '.log'
-                    at.parent.mkdir(parents=True, exist_ok=True)
-                    at.write_text(log, encoding='utf-8')
+                if said is None:
+                    lines = [line for line in lines if name not in line]
+                else:
+                    lines.append('rt: must-fail a/%s.edit: %s%s' % (name, '' if 'EDIT' in said else 'refused, as it must be', said))
+            (root / LOG).parent.mkdir(parents=True, exist_ok=True)
+            (root / LOG).write_text('\n'.join(lines + ['rt: ok', '']), encoding='utf-8')
             for name in twins:
                 twin = root / 'crates/a/twins' / (name + '.twin')
                 twin.parent.mkdir(parents=True, exist_ok=True)
@@ -231,26 +245,33 @@ def self_test():
 
         def another(log):
             """A check of the tree with another log of an edit."""
-            return lambda: made([('crates/a/must-fail/by_case.edit', log)])()
+            return lambda: made([('by_case', log)])()
 
         test.passes('the tree as it should be', made())
         test.passes('a fault that waits with the others',
-                    made([('crates/a/must-fail/by_case.edit', 't/specs/A.antt:3:1: error: `a`: no\n')],
+                    made([('by_case', ': specs/A.antt:3:1: error: `a`: no')],
                          listed=('a/listed | so', 'a/by_case | ' + NOT_YET)))
         test.passes('a line that waited for a twin', made(listed=('a/listed | so', 'a/by_proof | ' + NOT_YET)))
         for name, words, wrong in (
                 ('a missing name', 'refused for a name that is not there',
-                 another('t/proofs/Cases.antt:3:1: error: `cases`: `x` is not in scope\n')),
+                 another(': ./proofs/Cases.antt:3:1: error: `cases`: `x` is not in scope')),
                 ('a missing field', 'refused for a field that is missing',
-                 another('t/proofs/Cases.antt:3:1: error: `cases`: missing field(s) of `Step`: handed\n')),
+                 another(': ./proofs/Cases.antt:3:1: error: `cases`: missing field(s) of `Step`: handed')),
                 ('another field', 'refused for a field',
-                 another('t/proofs/Cases.antt:3:1: error: `cases`: `y` is not a field of record `Step`\n')),
+                 another(': ./proofs/Cases.antt:3:1: error: `cases`: `y` is not a field of record `Step`')),
                 ('what does not parse', 'refused for a text that does not parse',
-                 another('t/proofs/Cases.antt:3:1: error: this line starts at column 1, but the bracket is still open\n')),
-                ('a definition', 'refused in a definition', another('t/specs/A.antt:3:1: error: `a`: two types differ\n')),
-                ('no log', 'by_case has no log', another(None)),
-                ('an empty log', 'its log has no error', another('logic=proved\n')),
-                ('a proof without a twin', 'a/by_proof is refused first in a proof (proofs/f/Proof.antt:3): it needs a twin',
+                 another(': ./proofs/Cases.antt:3:1: error: this line starts at column 1, but the bracket is still open')),
+                ('a definition', 'refused in a definition', another(': specs/A.antt:3:1: error: `a`: two types differ')),
+                ('names that went', 'is refused, but only because a proof file names what the edit took away',
+                 another(' (only because a proof file names what the edit took away, so this says little of the contract: change a value and'
+                         ' keep the names): ./proofs/Laws.antt:3:1: error: `law`: `x` is not in scope')),
+                ('a limit', 'is refused, but only by a limit of the prover',
+                 another(' (only by a limit of the prover, which gave no verdict, so this says less of the contract: choose a change that it'
+                         ' refuses sooner): ./proofs/Laws.antt:3:1: error: `law`: the steps')),
+                ('a bad edit', 'by_case is not refused: BAD EDIT: it changes nothing', another('BAD EDIT: it changes nothing')),
+                ('no line', 'by_case has no line', another(None)),
+                ('a line without an error', 'its line has no error', another('')),
+                ('a proof without a twin', 'a/by_proof is refused first in a proof (proofs/f/Answers.antt:3): it needs a twin',
                  lambda: made(twins=('by_search',))()),
                 ('a twin without an edit', 'a/other.twin stands beside no edit', lambda: made(twins=('by_proof', 'by_search', 'other'))()),
                 ('a line for what has a twin', 'a/listed needs no line', lambda: made(twins=('by_proof', 'by_search', 'listed'))()),
@@ -273,7 +294,7 @@ def self_test():
 
 
 def main():
-    """Reads the logs, or tries the twins; ends with status 1 if something is wrong."""
+    """Reads the log, or tries the twins; ends with status 1 if something is wrong."""
     parser = argparse.ArgumentParser(description=__doc__)
     parser.add_argument('--long', nargs='*', metavar='CRATE', help='try the twins, of these crates or of all')
     parser.add_argument('--write', action='store_true', help='write the list of edits without a twin')
