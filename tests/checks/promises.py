@@ -3,7 +3,7 @@
 # self-test: beside
 # says: a public call's promise is cited by no theorem, or docs/PROMISES-CITED.md is stale
 # counts: checks of documents
-"""For each public call the promise that its contract cites, the field of `demands` (Contracts) that ties the contract to it, and the
+"""For each public call the promise that its contract cites, the field of `demands` (CallContracts) that ties the contract to it, and the
 theorems that cite that very promise: the same name of the same file. --write writes the table docs/PROMISES-CITED.md. A call without a tie or
 without a theorem is a failure, unless promises-without.txt names it with a reason. The theorems are the fields of `Claims` of `demands`,
 those of the records that these fields are, and so on. Nothing is proved here: the files are read as texts."""
@@ -22,7 +22,7 @@ from support.failing import Cases
 SELF = pathlib.Path(__file__).resolve()
 ROOT = next(folder for folder in SELF.parents if (folder / 'crates.txt').exists())
 TABLE, WITHOUT = 'docs/PROMISES-CITED.md', 'tests/checks/promises-without.txt'
-CLAIMS, CONTRACTS = 'demands.specs.Claims', 'demands.specs.Contracts.'
+CLAIMS, CONTRACTS = 'demands.specs.Claims', 'demands.specs.CallContracts.'
 # the crates that users call: all their public functions
 CRATES = ('length_code', 'datagram_reader', 'datagram_writer', 'packet_reader', 'packet_pencil', 'packet_writer', 'session_calls',
           'sender_calls', 'frame_joiner', 'frame_feed', 'image_writer', 'image_reader', 'trace_replay_code', 'trace_compare_code', 'host')
@@ -30,10 +30,10 @@ CRATES = ('length_code', 'datagram_reader', 'datagram_writer', 'packet_reader', 
 MORE = (('session_held', 'Session', 'fresh'), ('sender', 'Sender', 'fresh'), ('frame', 'Joiner', 'fresh'),
         ('line_hex', '', 'hex_to_octets'))
 
-NAME = r'[^\W\d][\w′-]*'
-USE = re.compile(r'^(?:ghost )?use (Rattle·[^\s{;]+?)(?:\.\{([^}]*)\}| as (%s))?;?$' % NAME, re.M)
+NAME = r"[^\W\d][\w'-]*"
+USE = re.compile(r'^(?:ghost )?use (Rattle\.(?!std\.)[^\s{;]+?)(?:\.\{([^}]*)\}| as (%s))?;?$' % NAME, re.M)
 FUNCTION = re.compile(r'^\s*pub (?:extern "C" )?fn (\w+)\b(.*?)^\s*\{$', re.M | re.S)
-CLAIM = re.compile(r'⌜(.*?)⌝', re.S)
+CLAIM = re.compile(r'\bensures(?: \w+)? \{(.*?)\}(?=\s*(?:ensures\b|ghost\b|$))', re.S)
 RECORD = re.compile(r'^( *)pub (?:record|data) (%s)\b' % NAME)
 FIELD = re.compile(r'^( +)pub (%s) :(.*)$' % NAME)
 MEANING = re.compile(r'^( *)(?:abbrev|unfoldable) pub (%s) :' % NAME)
@@ -44,8 +44,8 @@ class Wrong(Exception):
 
 
 def module(path):
-    """A module's name without the marks of its own crate: Rattle·packet·specs.specs.Promise is packet.specs.Promise."""
-    return re.sub(r'^Rattle·([^·.]+)(?:·(?:specs|proofs))?\.', r'\1.', path)
+    """A module's name from its crate on: Rattle.packet.specs.Promise is packet.specs.Promise."""
+    return path.removeprefix('Rattle.')
 
 
 class File:
@@ -170,10 +170,10 @@ def cites(file, statement, promise):
 
 def contract(file, text, call):
     """The promise that a contract cites: the first word of its claim, or what the result equals; of `Puts (X ..)` both words."""
-    claims = CLAIM.findall(text[text.find('ensures'):] if 'ensures' in text else '')
+    claims = CLAIM.findall(text)
     if not claims:
         raise Wrong('%s promises nothing' % call)
-    claim = claims[0].split('≡', 1)[1] if re.match(r'\s*\w+ ≡', claims[0]) else claims[0]
+    claim = claims[0].split('≡', 1)[1] if re.match(r'\s*result ≡', claims[0]) else claims[0]
     words = [found for found in (file.found(word[0]) for word in re.finditer(r'(?:%s\.)?%s' % (NAME, NAME), claim)) if found]
     if not words:
         raise Wrong('%s: no promise of specs/ in its contract: %s' % (call, ' '.join(claims[0].split())))
@@ -185,7 +185,8 @@ def functions(tree, crate):
     found = {}
     folder = tree.root / 'crates' / crate / 'src'
     top = (folder / 'lib.rt').read_text(encoding='utf-8')
-    shown = set(re.findall(r'^pub use (?:\w+::)+(\w+);', top, re.M)) | {name for name, _ in FUNCTION.findall(top)}
+    used = ' '.join(re.findall(r'^pub use (?:\w+::)+(\w+|\{[^}]*\});', top, re.M))
+    shown = set(re.findall(r'\w+', used)) | {name for name, _ in FUNCTION.findall(top)}
     for path in sorted(folder.rglob('*.rt')):
         file = File(path, '')
         for name, text in FUNCTION.findall(file.text):
@@ -208,7 +209,7 @@ def calls(tree):
 def ties(tree):
     """For each contract that a field of Contracts begins with: the field's record and name, its file and statement."""
     found = {}
-    for path in sorted((tree.root / 'crates/demands/specs/Contracts').glob('*.antt')):
+    for path in sorted((tree.root / 'crates/demands/specs/CallContracts').glob('*.antt')):
         file = tree.file(CONTRACTS + path.stem)
         for record, fields in file.records.items():
             for field, statement in fields.items():
@@ -243,7 +244,7 @@ def rows(tree):
         if (tie and by) and call in without:
             raise Wrong('%s: %s has both, a tie and a theorem' % (WITHOUT, call))
         if not (tie and by) and call not in without:
-            what = 'no theorem cites its promise ' + promise[0][1] if tie else 'no field of Contracts has its contract'
+            what = 'no theorem cites its promise ' + promise[0][1] if tie else 'no field of CallContracts has its contract'
             raise Wrong('%s: %s' % (call, what))
         found.append((call, promise, tie, by, without.get(call)))
     names = [row[0] for row in found]
@@ -263,7 +264,7 @@ def table(found):
     """The text of the table."""
     lines = ['# Which theorems cite which promise', '',
              'Written by `tests/checks/promises.py --write` from the contracts and the statements, and checked by the same script.',
-             '*Tied by* is the field of `crates/demands/specs/Contracts` which says that what a caller learns from the contract is this',
+             '*Tied by* is the field of `crates/demands/specs/CallContracts` which says that what a caller learns from the contract is this',
              'promise: if the contract says less, `demands` is not proved. The theorems are fields of records in `crates/demands/specs`,',
              'or in the crate that is named; [PROMISES.md](PROMISES.md) says what they mean.', '',
              '| Call | Promise | Tied by | Theorems that cite it |', '|---|---|---|---|']
@@ -301,9 +302,8 @@ def self_test():
     def case(name, words, *edits):
         with tempfile.TemporaryDirectory() as folder:
             root = pathlib.Path(folder)
-            for file in (ROOT / 'crates').rglob('*'):
-                parts = file.relative_to(ROOT).parts
-                if file.is_file() and len(parts) > 3 and parts[2] in ('specs', 'src'):
+            for file in (file for part in ('specs', 'src') for file in ROOT.glob('crates/*/%s/**/*' % part)):
+                if file.is_file():
                     (root / file.relative_to(ROOT)).parent.mkdir(parents=True, exist_ok=True)
                     shutil.copy(file, root / file.relative_to(ROOT))
             for one in (TABLE, WITHOUT):
@@ -316,16 +316,16 @@ def self_test():
             found = broken(root)
             test.case('%s: %s' % (name, words), found is not None and words in found, found)
 
-    second, tied = 'crates/packet_pencil/src/whole.rt', 'crates/demands/specs/Contracts/LibraryContracts.antt'
-    another = second, '⌜ ReadBy edition ending', '⌜ ChosenTaken edition ending'
-    owes = '→ secondRead.Learnt κs (edition, (octets, (ending, tt))) r end\n      → '
+    second, tied = 'crates/packet_pencil/src/whole.rt', 'crates/demands/specs/CallContracts/LibraryContracts.antt'
+    another = second, '{ ReadBy edition ending', '{ ChosenTaken edition ending'
+    owes = '→ second_read.Learnt κs (edition, (octets, (ending, tt))) r end\n      → '
     case('another promise', 'does not cite the promise', another)
     case('a promise that no theorem cites', 'no theorem cites its promise', another,
          (tied, owes + 'ReadBy', owes + 'ChosenTaken'),
-         (tied, '\nuse Rattle·packet_reader.p', '\nuse Rattle·packet_pencil.specs.Packet.{ChosenTaken}\nuse Rattle·packet_reader.p'))
+         (tied, '\nuse Rattle.packet_reader.p', '\nuse Rattle.packet_pencil.specs.Packet.{ChosenTaken}\nuse Rattle.packet_reader.p'))
     case('a contract that says nothing', 'promises nothing',
-         (second, 'ensures { λ r. ⌜ ReadBy edition ending (now (octets .entry)) r ⌝ }', ''))
-    case('a contract that nothing ties', 'no field of Contracts', (tied, '→ secondRead.Learnt', '→ readPacket.Learnt'))
+         (second, 'ensures { ReadBy edition ending octets.now result }', ''))
+    case('a contract that nothing ties', 'no field of CallContracts', (tied, '→ second_read.Learnt', '→ read_packet.Learnt'))
     case('a tie to another promise', 'does not cite the promise', (tied, '→ SolveOwes s r', '→ OfferOwes s r'))
     case('a reason left out', 'no reason', (WITHOUT, '::put_octets: ', '::put_octets '))
     put = 'datagram_writer::put_octets: '
