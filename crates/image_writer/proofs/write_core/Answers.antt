@@ -2,7 +2,7 @@
 use native.Mathlib.Omega.{arith}
 use Rattle.session_held.specs.Table.{lent}
 use Rattle.image_writer.proofs.Laying.{room-front, room-rest}
-use Rattle.image_writer.proofs.Answers.{write-outside, table_fits, write-full, write-room, write_done}
+use Rattle.image_writer.proofs.Answers.{Lengths, write-outside, table_fits, write-full, write-room, write_done}
 use Rattle.image_writer.proofs.write_core.Goals as goal
 
 pub in_ranges-requires : goal.in_ranges-requires
@@ -42,7 +42,7 @@ pub put_rows-end-requires : goal.put_rows-end-requires
 put_rows-end-requires c =
     let args = c.args in
     let session = lent args.base args.counts args.table.now args.octets.now args.messages.now in
-    let long = (c.requires.table_len, (c.requires.octets_len, c.requires.messages_len)) in
+    let long : Lengths session = (c.requires.table_len, (c.requires.octets_len, c.requires.messages_len)) in
     let told = c.in_ranges.ensures in
     let inside = c.if-not-in_ranges.false-raw in
     let room = write-room session told inside long c.rows_size.ensures c.if-out-size.false in record { table_fits = table_fits session told inside long; octets_len = c.requires.octets_len; messages_len = c.requires.messages_len; room = room-rest _ c.put_first-first.ensures room }
