@@ -4,7 +4,7 @@ use Rattle.std.specs.Prelude.{ℕ, ◌≡◌, true, List, [], ◌∷◌, replica
 use Rattle.length.specs.Length.{length_to_write}
 use Rattle.length.specs.Promise.{LengthRead, WithinRead, Puts}
 use Rattle.length.specs.Claims.{Octets}
-use Rattle.length.specs.declared.Length.TheVariants as length
+use Rattle.length.specs.declared.Length.TheVariants as lengths
 use Rattle.length.specs.declared.Refusal.{Refusal}
 use Rattle.length.specs.declared.Written.TheVariants as written
 use Rattle.datagram.specs.Promise.{DatagramReads}
@@ -100,8 +100,8 @@ pub record PromiseCases : Type 0 where
   pub packet_written : PacketWritten 0 Indicator 3 [] [] [] (0xFF ∷ 0xFF ∷ []) (0x06 ∷ 0xFF ∷ []) (written.Octets 1)
   -- a length of 128, written and read (rule 26.8); 0 is not from 1 to 256 (rule 3.6)
   pub length_written : Puts (length_to_write 128) (0xFF ∷ 0xFF ∷ 0xFF ∷ []) (0x80 ∷ 0x80 ∷ 0xFF ∷ []) (written.Octets 2)
-  pub length_read : LengthRead (0x80 ∷ 0x80 ∷ 0xFF ∷ []) (length.Value 128 2)
-  pub within_read : WithinRead 1 256 (0x00 ∷ []) (length.Refused (refused_at 4 0))
+  pub length_read : LengthRead (0x80 ∷ 0x80 ∷ 0xFF ∷ []) (lengths.Value 128 2)
+  pub within_read : WithinRead 1 256 (0x00 ∷ []) (lengths.Refused (refused_at 4 0))
   -- a datagram with one spare, written and read
   pub datagram_written : DatagramWritten 1 (0x06 ∷ []) kind.Spares (1 ∷ []) (0x05 ∷ []) (replicate 9 0xFF)
       (0x00 ∷ 0x01 ∷ 0x01 ∷ 0x06 ∷ 0x00 ∷ 0x01 ∷ 0x01 ∷ 0x05 ∷ 0xFF ∷ []) (written.Octets 8)

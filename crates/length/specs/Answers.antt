@@ -4,7 +4,7 @@ use Rattle.std.specs.Prelude.{ℕ, Bool, true, false, cond, List, ◌++◌, leng
 use Rattle.length.specs.Refusals.{refusal, refusal_at, further, ends_early, no_room}
 use Rattle.length.specs.declared.Refusal.{Refusal}
 use Rattle.length.specs.declared.Length.{Length}
-use Rattle.length.specs.declared.Length.TheVariants as length
+use Rattle.length.specs.declared.Length.TheVariants as lengths
 use Rattle.length.specs.declared.Written.{Written}
 use Rattle.length.specs.declared.Written.TheVariants as written
 
@@ -53,13 +53,13 @@ pub record LengthAnswer : Type 0 where
 
 -- each case of the length reader's answer, as the rules' number and values (rule 30.10)
 abbrev pub length_outcome : Length → Answer LengthAnswer
-length_outcome (length.Value v n) = done (record { value = v; size = n })
-length_outcome (length.Refused r) = refused r
+length_outcome (lengths.Value v n) = done (record { value = v; size = n })
+length_outcome (lengths.Refused r) = refused r
 
 -- why a length is refused; for a length that is not refused it is 1, which no caller uses
 abbrev pub refusal_of : Length → Refusal
-refusal_of (length.Value v n) = refusal ends_early
-refusal_of (length.Refused r) = r
+refusal_of (lengths.Value v n) = refusal ends_early
+refusal_of (lengths.Refused r) = r
 
 -- each case of a writer's answer, as the rules' number and value: how many octets were written (rule 30.10)
 abbrev pub written_outcome : Written → Answer ℕ

@@ -9,7 +9,7 @@ use Rattle.length.specs.Answers.{Answer, done, refused, read_from, is_done, afte
 use Rattle.length.specs.Answers.{written_outcome, fitted, size_of, over}
 use Rattle.length.specs.Tables.{when, first, unless, refusal_in, place_in, room_row}
 use Rattle.length.specs.Length.{length_limit, length_at, length_within, length_to_write}
-use Rattle.length.specs.declared.Length.TheVariants as length
+use Rattle.length.specs.declared.Length.TheVariants as lengths
 use Rattle.length.specs.declared.Written.TheVariants as written
 
 -- rules 2.1 to 2.23: the number of each refusal; 11 is retired, and there is no 19
@@ -57,10 +57,10 @@ pub record ReadCases : Type 0 where
   pub form-first : length_within 2 5 (0xC0 ∷ []) ≡ placed 3 0
   pub end-first : length_within 2 5 [] ≡ placed 1 0
   -- rule 30.10: the cases of the reader's answer
-  pub value-told : length_outcome (length.Value 200 2) ≡ found 200 2
-  pub refusal-told : length_outcome (length.Refused (record { number = 3; place = 7 })) ≡ placed 3 7
-  pub why : refusal_of (length.Refused (record { number = 3; place = 7 })) ≡ record { number = 3; place = 7 }
-  pub why-value : refusal_of (length.Value 200 2) ≡ record { number = 1; place = 0 }
+  pub value-told : length_outcome (lengths.Value 200 2) ≡ found 200 2
+  pub refusal-told : length_outcome (lengths.Refused (record { number = 3; place = 7 })) ≡ placed 3 7
+  pub why : refusal_of (lengths.Refused (record { number = 3; place = 7 })) ≡ record { number = 3; place = 7 }
+  pub why-value : refusal_of (lengths.Value 200 2) ≡ record { number = 1; place = 0 }
 
 pub record WriteCases : Type 0 where
   -- rules 3.1, 3.2 and 3.8: one octet below 128, two to 16,383, and more is 4

@@ -6,7 +6,7 @@ use Rattle.length.specs.Length.{length_to_write}
 use Rattle.length.specs.Promise.{LengthRead, Puts}
 use Rattle.length.specs.Claims.{Octets}
 use Rattle.length.specs.declared.Length.{Length}
-use Rattle.length.specs.declared.Length.TheVariants as length
+use Rattle.length.specs.declared.Length.TheVariants as lengths
 use Rattle.length.specs.declared.Written.{Written}
 use Rattle.length.specs.declared.Written.TheVariants as written
 use Rattle.datagram.specs.Sizes.{packet_limit, spares_limit}
@@ -48,9 +48,9 @@ pub record WrittenBack (n : ℕ) (octets old new : List ℕ) (w : Written) : Typ
 pub record LengthTrips : Type 0 where
   -- a length that was written reads back to the same value and size, whatever follows it (rule 3.7)
   pub reads_back : (value : ℕ) {old new : List ℕ} {w : Written} {n : ℕ} → Puts (length_to_write value) old new w → w ≡ written.Octets n
-      → (more : List ℕ) {r : Length} → LengthRead (take n new ++ more) r → r ≡ length.Value value n
+      → (more : List ℕ) {r : Length} → LengthRead (take n new ++ more) r → r ≡ lengths.Value value n
   -- a length that was read writes back to the same octets
-  pub writes_back : {octets : List ℕ} {r : Length} {value n : ℕ} → Octets octets → LengthRead octets r → r ≡ length.Value value n
+  pub writes_back : {octets : List ℕ} {r : Length} {value n : ℕ} → Octets octets → LengthRead octets r → r ≡ lengths.Value value n
       → {old new : List ℕ} {w : Written} → Puts (length_to_write value) old new w → n ≤ length old → WrittenBack n (take n octets) old new w
 
 -- ---- datagrams
