@@ -1,14 +1,14 @@
 // Standard input, line by line.
 use datagram::Datagram;
+use std::io::{BufReader, Read, Stdin};
 
 // How many characters of a line are kept: more than two words and a line of hexadecimal need.
 pub const KEPT: usize = 2 * Datagram::LIMIT + 16;
 
-// The next character of the input, and whether there is none.
-fn character(ended: &mut bool) -> u8 {
+// The next character of the input, and whether there is none. A read that fails ends the input.
+fn character(input: &mut BufReader<Stdin>, ended: &mut bool) -> u8 {
     let mut one = [0u8; 1];
-    let got = libc::read(0, &mut one);
-    *ended = io::count(got, &one) == 0;
+    *ended = input.read(&mut one).unwrap_or(0) == 0;
     one[0]
 }
 
@@ -17,12 +17,12 @@ fn is_blank(c: u8) -> bool {
 }
 
 // One line without its blanks (rule 19.9), to the front of line: how many characters it has, or how many are kept if it is too long.
-pub fn read_line(line: &mut [u8; KEPT], ended: &mut bool) -> usize {
+pub fn read_line(input: &mut BufReader<Stdin>, line: &mut [u8; KEPT], ended: &mut bool) -> usize {
     let mut size = 0;
     let mut turns = u64::MAX;
     while turns > 0 {
         turns -= 1;
-        let next = character(ended);
+        let next = character(input, ended);
         if *ended | (next == b'\n') {
             return size;
         }

@@ -1,46 +1,46 @@
 // The last line: what the packet reads as, or its refusal and place (rules 19.6 and 19.7).
 use crate::names::{NAME, say_data, say_indicator, say_type};
-use crate::text::{say, say_count, say_number, say_octets, say_refusal};
+use crate::text::{Out, say, say_count, say_number, say_octets, say_refusal};
 use crate::wording;
 use crate::wording::say_word;
 use packet::{Ending, Field, Named, PacketKind, PacketRead, PacketReading};
 
 // A value after its word, then the bracket that opens its name.
-fn say_value(word: usize, value: usize) {
-    say_word(word);
-    say_number(value);
-    say_word(wording::OPENS);
+fn say_value(out: &mut Out, word: usize, value: usize) {
+    say_word(out, word);
+    say_number(out, value);
+    say_word(out, wording::OPENS);
 }
 
-fn say_kind(kind: PacketKind, value: usize) {
+fn say_kind(out: &mut Out, kind: PacketKind, value: usize) {
     match kind {
         PacketKind::Indicator => {
-            say_value(wording::READS_AS_INDICATOR, value);
-            say_indicator(value, NAME);
+            say_value(out, wording::READS_AS_INDICATOR, value);
+            say_indicator(out, value, NAME);
         }
         PacketKind::Data => {
-            say_value(wording::READS_AS_DATA, value);
-            say_data(value, NAME);
+            say_value(out, wording::READS_AS_DATA, value);
+            say_data(out, value, NAME);
         }
     }
-    say_word(wording::CLOSES);
+    say_word(out, wording::CLOSES);
 }
 
-fn say_field(kind: usize, size: usize) {
-    say_value(wording::TYPE, kind);
-    say_type(kind, NAME);
-    say_word(wording::CLOSES);
-    say_octets(size);
+fn say_field(out: &mut Out, kind: usize, size: usize) {
+    say_value(out, wording::TYPE, kind);
+    say_type(out, kind, NAME);
+    say_word(out, wording::CLOSES);
+    say_octets(out, size);
 }
 
-fn all_fields(fields: [Field; Field::LIMIT], count: usize) {
-    say_count(count, wording::FIELD);
+fn all_fields(out: &mut Out, fields: [Field; Field::LIMIT], count: usize) {
+    say_count(out, count, wording::FIELD);
     let mut i = 0;
     while i < Field::LIMIT {
         let field = fields[i];
         i += 1;
         if i <= count {
-            say_field(field.kind as usize, field.size);
+            say_field(out, field.kind as usize, field.size);
         }
     }
 }
@@ -54,7 +54,7 @@ pub fn read_by(named: Named, octets: &[u8], ending: Ending) -> PacketRead {
 }
 
 // For a packet that this edition refuses: writes `word` if the other edition reads it (rule 19.7).
-fn say_other(other: Named, octets: &[u8], ending: Ending, word: usize) {
+fn say_other(out: &mut Out, other: Named, octets: &[u8], ending: Ending, word: usize) {
     let found = read_by(other, octets, ending);
     let reading = found.reading;
     match reading {
@@ -63,32 +63,32 @@ fn say_other(other: Named, octets: &[u8], ending: Ending, word: usize) {
             kind: _,
             value: _,
             count: _,
-        } => say_word(word),
+        } => say_word(out, word),
     }
 }
 
-fn say_elsewhere(named: Named, octets: &[u8], ending: Ending) {
+fn say_elsewhere(out: &mut Out, named: Named, octets: &[u8], ending: Ending) {
     match named {
-        Named::Old => say_other(Named::New, octets, ending, wording::READS_ONLY_IN_NEW),
-        Named::New => say_other(Named::Old, octets, ending, wording::READS_ONLY_IN_OLD),
+        Named::Old => say_other(out, Named::New, octets, ending, wording::READS_ONLY_IN_NEW),
+        Named::New => say_other(out, Named::Old, octets, ending, wording::READS_ONLY_IN_OLD),
     }
-    say(b"\n");
+    say(out, b"\n");
 }
 
 // What the packet reads as. A refusal met while reading is written with its octet, one of the whole packet without (rule 19.6).
-pub fn told(named: Named, octets: &[u8], ending: Ending, met: bool) {
+pub fn told(out: &mut Out, named: Named, octets: &[u8], ending: Ending, met: bool) {
     let found = read_by(named, octets, ending);
     let fields = found.fields;
     let reading = found.reading;
     match reading {
         PacketReading::Refused(why) => {
-            say_refusal(why, met);
-            say_elsewhere(named, octets, ending);
+            say_refusal(out, why, met);
+            say_elsewhere(out, named, octets, ending);
         }
         PacketReading::Packet { kind, value, count } => {
-            say_kind(kind, value as usize);
-            all_fields(fields, count);
-            say(b"\n");
+            say_kind(out, kind, value as usize);
+            all_fields(out, fields, count);
+            say(out, b"\n");
         }
     }
 }

@@ -1,14 +1,15 @@
 // Annex A's names, those added in 2002 included (rules 6.28 to 6.30, 7.4, 7.14 and 7.15), each with its meaning in plain words: a table for
 // each type, a line for each value.
-use crate::text::say_line;
+use crate::text::{Out, say_line};
 
 // The character that ends a name, and the one that ends its line.
 pub const NAME: u8 = b',';
 
 pub const LINE: u8 = b'\n';
 
-pub fn say_indicator(value: usize, end: u8) {
+pub fn say_indicator(out: &mut Out, value: usize, end: u8) {
     say_line(
+        out,
         b"no-signal, nothing on the line
 cng, calling tone, 1100 Hz
 ced, answering tone, 2100 Hz
@@ -38,8 +39,9 @@ v33-14400-training, training signal of V.33 at 14400 bit/s
     )
 }
 
-pub fn say_data(value: usize, end: u8) {
+pub fn say_data(out: &mut Out, value: usize, end: u8) {
     say_line(
+        out,
         b"v21, sent by V.21 at 300 bit/s
 v27-2400, sent by V.27 ter at 2400 bit/s
 v27-4800, sent by V.27 ter at 4800 bit/s
@@ -62,8 +64,9 @@ v33-14400, sent by V.33 at 14400 bit/s
 }
 
 // field-type
-pub fn say_type(kind: usize, end: u8) {
+pub fn say_type(out: &mut Out, kind: usize, end: u8) {
     say_line(
+        out,
         b"hdlc-data, octets of a frame
 hdlc-sig-end, the frames' signal ends
 hdlc-fcs-OK, a good frame ends, more follow

@@ -5,7 +5,7 @@ ghost use Rattle.datagram.specs.Sizes.{packet_limit};
 use crate::fields::{data_field, marked, padding};
 use crate::last::read_by;
 use crate::text::{
-    Bit, On, part, row_of_bit, row_of_octets, say_hex, say_octets, say_refused, stopped,
+    Bit, On, Out, part, row_of_bit, row_of_octets, say_hex, say_octets, say_refused, stopped,
 };
 use crate::values::{Which, enumerated};
 use crate::wording;
@@ -25,11 +25,12 @@ fn data_name(named: Named) -> usize {
     }
 }
 
-fn chosen(named: Named, octets: &[u8], at: usize, which: Which, name: usize) -> On
+fn chosen(out: &mut Out, named: Named, octets: &[u8], at: usize, which: Which, name: usize) -> On
     requires { length octets.now ≤ packet_limit }
 {
-    end_line(name);
+    end_line(out, name);
     enumerated(
+        out,
         named,
         octets,
         FIRST,
@@ -39,86 +40,86 @@ fn chosen(named: Named, octets: &[u8], at: usize, which: Which, name: usize) -> 
     )
 }
 
-fn type_of_msg(named: Named, octets: &[u8], at: usize) -> On
+fn type_of_msg(out: &mut Out, named: Named, octets: &[u8], at: usize) -> On
     requires { length octets.now ≤ packet_limit }
 {
-    match row_of_bit(octets, FIRST, at, wording::TYPE_OF_MSG) {
+    match row_of_bit(out, octets, FIRST, at, wording::TYPE_OF_MSG) {
         Bit::Stopped => On::Stopped,
-        Bit::Set => chosen(named, octets, at, Which::Data, data_name(named)),
-        Bit::Clear => chosen(named, octets, at, Which::Indicator, wording::INDICATOR),
+        Bit::Set => chosen(out, named, octets, at, Which::Data, data_name(named)),
+        Bit::Clear => chosen(out, named, octets, at, Which::Indicator, wording::INDICATOR),
     }
 }
 
 // The first item: the bit for data-field OPTIONAL, and Type-of-msg.
-fn first_item(named: Named, octets: &[u8]) -> On
+fn first_item(out: &mut Out, named: Named, octets: &[u8]) -> On
     requires { length octets.now ≤ packet_limit }
 {
-    match marked(octets, FIRST, 0, wording::PRESENT) {
+    match marked(out, octets, FIRST, 0, wording::PRESENT) {
         On::Stopped => On::Stopped,
-        On::At(next) => match type_of_msg(named, octets, next) {
+        On::At(next) => match type_of_msg(out, named, octets, next) {
             On::Stopped => On::Stopped,
-            On::At(at) => padding(octets, at),
+            On::At(at) => padding(out, octets, at),
         },
     }
 }
 
 // What follows the end, from an octet on: nothing, or zeros if the packet was repaired (rules 6.11 and 6.12).
-fn after_end(named: Named, octets: &[u8], at: usize, from: usize, ending: Ending) {
+fn after_end(out: &mut Out, named: Named, octets: &[u8], at: usize, from: usize, ending: Ending) {
     if octets.len() <= from {
         return;
     }
     let size = octets.len() - from;
-    row_of_octets(at, wording::AFTER_END);
-    say_octets(size);
-    say_word(wording::COMMA);
-    say_hex(part(octets, from, size));
-    say_word(wording::COLON);
+    row_of_octets(out, at, wording::AFTER_END);
+    say_octets(out, size);
+    say_word(out, wording::COMMA);
+    say_hex(out, part(octets, from, size));
+    say_word(out, wording::COLON);
     let found = read_by(named, octets, ending);
     let reading = found.reading;
     match reading {
-        PacketReading::Refused(why) => say_refused(why),
+        PacketReading::Refused(why) => say_refused(out, why),
         PacketReading::Packet {
             kind: _,
             value: _,
             count: _,
-        } => end_line(wording::ZEROS),
+        } => end_line(out, wording::ZEROS),
     }
 }
 
-fn end(named: Named, octets: &[u8], at: usize, ending: Ending)
+fn end(out: &mut Out, named: Named, octets: &[u8], at: usize, ending: Ending)
     requires { length octets.now ≤ packet_limit }
 {
-    match padding(octets, at) {
+    match padding(out, octets, at) {
         On::Stopped => {}
-        On::At(edge) => after_end(named, octets, edge, octet(octets, edge), ending),
+        On::At(edge) => after_end(out, named, octets, edge, octet(octets, edge), ending),
     }
 }
 
 // The data field, where there is one, and the end.
-fn rest(named: Named, octets: &[u8], ending: Ending)
+fn rest(out: &mut Out, named: Named, octets: &[u8], ending: Ending)
     requires { length octets.now ≤ packet_limit }
 {
     match start(named, octets, 0) {
         First::Refused(why) => {
-            stopped(octets, 0, 1, wording::OPTIONAL, why);
+            stopped(out, octets, 0, 1, wording::OPTIONAL, why);
         }
         First::Found(_, _, present, at) => {
             if !present {
-                return end(named, octets, at, ending);
+                return end(out, named, octets, at, ending);
             }
-            match data_field(named, octets, at) {
+            match data_field(out, named, octets, at) {
                 On::Stopped => {}
-                On::At(next) => end(named, octets, next, ending),
+                On::At(next) => end(out, named, octets, next, ending),
             }
         }
     }
 }
 
-pub fn packet(named: Named, octets: &[u8], ending: Ending)
+pub fn packet(out: &mut Out, named: Named, octets: &[u8], ending: Ending)
     requires { length octets.now ≤ packet_limit }
 {
-    match first_item(named, octets) {
+    match first_item(out, named, octets) {
         On::Stopped => {}
-        On::At(_) => rest(named, octets, ending),
+        On::At(_) => rest(out, named, octets, ending),
     }
 }

@@ -1,4 +1,4 @@
-// What is written, piece by piece, to standard output.
+// What is written, piece by piece, to standard output. A write that fails loses its text, and the program goes on.
 ghost use Rattle.std.specs.Prelude.{◌≤◌, length};
 ghost use Rattle.datagram.specs.Sizes.{packet_limit};
 
@@ -7,6 +7,10 @@ use crate::wording::{end_line, say_word};
 use datagram::Packet;
 use length::Refusal;
 use packet_pencil::{Marked, Number, bit, flag};
+use std::io::{BufWriter, Stdout, Write};
+
+// Standard output behind a buffer.
+pub type Out = BufWriter<Stdout>;
 
 // Where the packet goes on, or that it was refused.
 #[derive(Drop)]
@@ -15,12 +19,12 @@ pub enum On {
     Stopped,
 }
 
-pub fn say(text: &[u8]) {
-    io::write_all(1, text);
+pub fn say(out: &mut Out, text: &[u8]) {
+    let _ = out.write_all(text);
 }
 
-pub fn say_number(n: usize) {
-    io::print_decimal(1, n as u64);
+pub fn say_number(out: &mut Out, n: usize) {
+    let _ = write!(out, "{n}");
 }
 
 // `size` octets from `start` on, or none if there are fewer.
@@ -35,7 +39,7 @@ pub fn part(octets: &[u8], start: usize, size: usize) -> &[u8] {
 }
 
 // A line of a table, counted from 0, up to a character or to the end of the line.
-pub fn say_line(table: &[u8], line: usize, last: u8) {
+pub fn say_line(out: &mut Out, table: &[u8], line: usize, last: u8) {
     let mut left = line;
     let mut start = 0;
     let mut i = 0;
@@ -43,7 +47,10 @@ pub fn say_line(table: &[u8], line: usize, last: u8) {
         let c = table[i];
         if left == 0 {
             if (c == last) | (c == b'\n') {
-                return say(part(table, start, std::num::wrapping_sub_usize(i, start)));
+                return say(
+                    out,
+                    part(table, start, std::num::wrapping_sub_usize(i, start)),
+                );
             }
         }
         i += 1;
@@ -55,33 +62,33 @@ pub fn say_line(table: &[u8], line: usize, last: u8) {
 }
 
 // Octets in hexadecimal, at most as many as a packet has.
-pub fn say_hex(octets: &[u8]) {
+pub fn say_hex(out: &mut Out, octets: &[u8]) {
     let mut text = [0u8; 2 * Packet::LIMIT];
     let size = octets.len();
     if size <= Packet::LIMIT {
         line_hex::put_digits(octets, &mut text, 0);
-        say(part(&text, 0, 2 * size));
+        say(out, part(&text, 0, 2 * size));
     }
 }
 
 // A count of what a word names; its plural is the next line of the table.
-pub fn say_count(n: usize, word: usize) {
-    say_number(n);
+pub fn say_count(out: &mut Out, n: usize, word: usize) {
+    say_number(out, n);
     if n == 1 {
-        return say_word(word);
+        return say_word(out, word);
     }
-    say_word(std::num::wrapping_add_usize(word, 1))
+    say_word(out, std::num::wrapping_add_usize(word, 1))
 }
 
-pub fn say_octets(n: usize) {
-    say_count(n, wording::OCTET)
+pub fn say_octets(out: &mut Out, n: usize) {
+    say_count(out, n, wording::OCTET)
 }
 
-pub fn say_flag(set: bool) {
+pub fn say_flag(out: &mut Out, set: bool) {
     if set {
-        return end_line(wording::YES);
+        return end_line(out, wording::YES);
     }
-    end_line(wording::NO)
+    end_line(out, wording::NO)
 }
 
 // The words for each refusal that a packet can meet, as in README's table.
@@ -99,25 +106,25 @@ fn words_for(number: u8) -> usize {
 }
 
 // A refusal: its number, the octet at which the refused item begins if it was met in reading order, and its words (rule 19.5).
-pub fn say_refusal(why: Refusal, met: bool) {
-    say_word(wording::REFUSED);
-    say_number(why.number as usize);
+pub fn say_refusal(out: &mut Out, why: Refusal, met: bool) {
+    say_word(out, wording::REFUSED);
+    say_number(out, why.number as usize);
     if met {
-        say_word(wording::AT_OCTET);
-        say_number(why.place);
+        say_word(out, wording::AT_OCTET);
+        say_number(out, why.place);
     }
-    say_word(wording::COLON);
-    say_word(words_for(why.number));
+    say_word(out, wording::COLON);
+    say_word(out, words_for(why.number));
 }
 
 // The end of a refused item's line.
-pub fn say_refused(why: Refusal) {
-    say_refusal(why, false);
-    say(b"\n");
+pub fn say_refused(out: &mut Out, why: Refusal) {
+    say_refusal(out, why, false);
+    say(out, b"\n");
 }
 
-fn say_blanks(n: usize) {
-    say(part(b"                  ", 0, n));
+fn say_blanks(out: &mut Out, n: usize) {
+    say(out, part(b"                  ", 0, n));
 }
 
 // The blanks behind the number of an octet.
@@ -132,63 +139,76 @@ fn blanks_behind(octet: usize) -> usize {
 }
 
 // A place, in octets and bits.
-fn say_place(at: usize) {
+fn say_place(out: &mut Out, at: usize) {
     let octet = at / 8;
-    say_word(wording::PLACE);
-    say_number(octet);
-    say_blanks(blanks_behind(octet));
-    say_word(wording::BIT);
-    say_number(at % 8);
-    say_word(wording::GAP);
+    say_word(out, wording::PLACE);
+    say_number(out, octet);
+    say_blanks(out, blanks_behind(octet));
+    say_word(out, wording::BIT);
+    say_number(out, at % 8);
+    say_word(out, wording::GAP);
 }
 
 // The bit at a place; a dash past the end.
-fn say_bit(octets: &[u8], at: usize)
+fn say_bit(out: &mut Out, octets: &[u8], at: usize)
     requires { length octets.now ≤ packet_limit }
 {
     match bit(octets, at / 8, at) {
-        Number::Refused(_) => say(b"-"),
-        Number::Found(one, _) => say_number(one),
+        Number::Refused(_) => say(out, b"-"),
+        Number::Found(one, _) => say_number(out, one),
     }
 }
 
 // The bits from a place up to another.
-fn say_bits(octets: &[u8], at: usize, end: usize)
+fn say_bits(out: &mut Out, octets: &[u8], at: usize, end: usize)
     requires { length octets.now ≤ packet_limit }
 {
     let mut next = at;
     while next < end {
-        say_bit(octets, next);
+        say_bit(out, octets, next);
         next += 1;
     }
 }
 
 // The front of an item's line: its place, its bits, its name (rule 19.5).
-pub fn row(octets: &[u8], at: usize, end: usize, name: usize)
+pub fn row(out: &mut Out, octets: &[u8], at: usize, end: usize, name: usize)
     requires { length octets.now ≤ packet_limit }
 {
-    say_place(at);
-    say_bits(octets, at, end);
+    say_place(out, at);
+    say_bits(out, octets, at, end);
     let bits = std::num::wrapping_sub_usize(end, at);
-    say_blanks(std::num::wrapping_sub_usize(18, bits));
-    say_word(name);
-    say_word(wording::COLON);
+    say_blanks(out, std::num::wrapping_sub_usize(18, bits));
+    say_word(out, name);
+    say_word(out, wording::COLON);
 }
 
 // The same for an item of whole octets, which are written behind the name.
-pub fn row_of_octets(at: usize, name: usize) {
-    say_place(at);
-    say_word(wording::AS_OCTETS);
-    say_word(name);
-    say_word(wording::COLON);
+pub fn row_of_octets(out: &mut Out, at: usize, name: usize) {
+    say_place(out, at);
+    say_word(out, wording::AS_OCTETS);
+    say_word(out, name);
+    say_word(out, wording::COLON);
 }
 
 // The line of a refused item of this many bits.
-pub fn stopped(octets: &[u8], at: usize, bits: usize, name: usize, why: Refusal) -> On
+pub fn stopped(
+    out: &mut Out,
+    octets: &[u8],
+    at: usize,
+    bits: usize,
+    name: usize,
+    why: Refusal,
+) -> On
     requires { length octets.now ≤ packet_limit }
 {
-    row(octets, at, std::num::wrapping_add_usize(at, bits), name);
-    say_refused(why);
+    row(
+        out,
+        octets,
+        at,
+        std::num::wrapping_add_usize(at, bits),
+        name,
+    );
+    say_refused(out, why);
     On::Stopped
 }
 
@@ -201,16 +221,16 @@ pub enum Bit {
 }
 
 // A single bit: the front of its line, or the whole line if it is refused. What comes next begins in the bit behind it.
-pub fn row_of_bit(octets: &[u8], item: usize, at: usize, name: usize) -> Bit
+pub fn row_of_bit(out: &mut Out, octets: &[u8], item: usize, at: usize, name: usize) -> Bit
     requires { length octets.now ≤ packet_limit }
 {
     match flag(octets, item, at) {
         Marked::Refused(why) => {
-            stopped(octets, at, 1, name, why);
+            stopped(out, octets, at, 1, name, why);
             Bit::Stopped
         }
         Marked::Found(set, next) => {
-            row(octets, at, next, name);
+            row(out, octets, at, next, name);
             if set {
                 return Bit::Set;
             }

@@ -3,7 +3,7 @@ ghost use Rattle.std.specs.Prelude.{◌≤◌, length};
 ghost use Rattle.datagram.specs.Sizes.{packet_limit};
 
 use crate::names::{LINE, say_data, say_indicator, say_type};
-use crate::text::{Bit, On, row, row_of_bit, say, say_refused, stopped};
+use crate::text::{Bit, On, Out, row, row_of_bit, say, say_refused, stopped};
 use crate::wording;
 use crate::wording::end_line;
 use packet::{Enumerated, Named, PacketKind};
@@ -39,24 +39,32 @@ fn value_at(named: Named, octets: &[u8], item: usize, at: usize, which: Which) -
     }
 }
 
-fn say_value(which: Which, value: usize) {
+fn say_value(out: &mut Out, which: Which, value: usize) {
     match which {
-        Which::Indicator => say_indicator(value, LINE),
-        Which::Data => say_data(value, LINE),
-        Which::Type => say_type(value, LINE),
+        Which::Indicator => say_indicator(out, value, LINE),
+        Which::Data => say_data(out, value, LINE),
+        Which::Type => say_type(out, value, LINE),
     }
-    say(b"\n");
+    say(out, b"\n");
 }
 
 // The last bits of a value, from a place on: the value, or why it is refused.
-fn last_bits(octets: &[u8], at: usize, bits: usize, which: Which, name: usize, found: Number) -> On
+fn last_bits(
+    out: &mut Out,
+    octets: &[u8],
+    at: usize,
+    bits: usize,
+    which: Which,
+    name: usize,
+    found: Number,
+) -> On
     requires { length octets.now ≤ packet_limit }
 {
     match found {
-        Number::Refused(why) => stopped(octets, at, bits, name, why),
+        Number::Refused(why) => stopped(out, octets, at, bits, name, why),
         Number::Found(value, end) => {
-            row(octets, at, end, name);
-            say_value(which, value);
+            row(out, octets, at, end, name);
+            say_value(out, which, value);
             On::At(end)
         }
     }
@@ -64,10 +72,10 @@ fn last_bits(octets: &[u8], at: usize, bits: usize, which: Which, name: usize, f
 
 // A single bit that is refused, behind the front of its line: a bit for extension where no value is added, or a 1 in place of the 0 bit of
 // an added value (rules 7.6 and 7.7).
-fn refused_bit(found: Number) -> On {
+fn refused_bit(out: &mut Out, found: Number) -> On {
     match found {
         Number::Refused(why) => {
-            say_refused(why);
+            say_refused(out, why);
             On::Stopped
         }
         Number::Found(_, end) => On::At(end),
@@ -75,16 +83,25 @@ fn refused_bit(found: Number) -> On {
 }
 
 // An added value, behind its bit for extension: one 0 bit, then six bits (rule 7.5).
-fn added(octets: &[u8], item: usize, at: usize, which: Which, name: usize, found: Number) -> On
+fn added(
+    out: &mut Out,
+    octets: &[u8],
+    item: usize,
+    at: usize,
+    which: Which,
+    name: usize,
+    found: Number,
+) -> On
     requires { length octets.now ≤ packet_limit }
 {
-    end_line(wording::EXTENSION);
-    match row_of_bit(octets, item, at, name) {
+    end_line(out, wording::EXTENSION);
+    match row_of_bit(out, octets, item, at, name) {
         Bit::Stopped => On::Stopped,
-        Bit::Set => refused_bit(found),
+        Bit::Set => refused_bit(out, found),
         Bit::Clear => {
-            end_line(wording::SIX_BITS);
+            end_line(out, wording::SIX_BITS);
             last_bits(
+                out,
                 octets,
                 std::num::wrapping_add_usize(at, 1),
                 ADDED_WIDTH,
@@ -97,16 +114,25 @@ fn added(octets: &[u8], item: usize, at: usize, which: Which, name: usize, found
 }
 
 // A value behind the bit for extension, which is 0: the bits of a value before the extension mark.
-fn plain(octets: &[u8], at: usize, width: usize, which: Which, name: usize, found: Number) -> On
+fn plain(
+    out: &mut Out,
+    octets: &[u8],
+    at: usize,
+    width: usize,
+    which: Which,
+    name: usize,
+    found: Number,
+) -> On
     requires { length octets.now ≤ packet_limit }
 {
-    end_line(wording::NO_EXTENSION);
-    last_bits(octets, at, width, which, name, found)
+    end_line(out, wording::NO_EXTENSION);
+    last_bits(out, octets, at, width, which, name, found)
 }
 
 // A value, from a place on, of the item that begins at the octet `item`. Where the bit for extension is 1 and no value is added, the bit
 // itself is refused (rule 7.6).
 pub fn enumerated(
+    out: &mut Out,
     named: Named,
     octets: &[u8],
     item: usize,
@@ -119,17 +145,17 @@ pub fn enumerated(
     let values = values_of(named, which);
     let found = value_at(named, octets, item, at, which);
     if !values.extensible {
-        return last_bits(octets, at, values.width, which, name, found);
+        return last_bits(out, octets, at, values.width, which, name, found);
     }
     let next = std::num::wrapping_add_usize(at, 1);
-    match row_of_bit(octets, item, at, name) {
+    match row_of_bit(out, octets, item, at, name) {
         Bit::Stopped => On::Stopped,
         Bit::Set => {
             if values.added == 0 {
-                return refused_bit(found);
+                return refused_bit(out, found);
             }
-            added(octets, item, next, which, name, found)
+            added(out, octets, item, next, which, name, found)
         }
-        Bit::Clear => plain(octets, next, values.width, which, name, found),
+        Bit::Clear => plain(out, octets, next, values.width, which, name, found),
     }
 }

@@ -1,5 +1,5 @@
 // The words that the program writes: the lines of one table, each with its number.
-use crate::text::{say, say_line};
+use crate::text::{Out, say, say_line};
 
 pub const NO: usize = 0;
 
@@ -109,8 +109,9 @@ pub const READS_ONLY_IN_OLD: usize = 52;
 
 pub const READS_ONLY_IN_NEW: usize = 53;
 
-pub fn say_word(word: usize) {
+pub fn say_word(out: &mut Out, word: usize) {
     say_line(
+        out,
         b"no
 yes
  octet
@@ -172,7 +173,7 @@ reads as data
 }
 
 // The last words of a line.
-pub fn end_line(word: usize) {
-    say_word(word);
-    say(b"\n");
+pub fn end_line(out: &mut Out, word: usize) {
+    say_word(out, word);
+    say(out, b"\n");
 }
