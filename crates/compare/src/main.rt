@@ -6,7 +6,11 @@
 mod telling;
 
 use line::Line;
-use telling::say;
+use std::env::Env;
+use std::fs::File;
+use std::io::{BufWriter, Read};
+use std::{io, str};
+use telling::{Out, fail, say};
 use trace_compare::{Compared, Entry, Trace};
 
 // The most characters of a trace: each line with just enough to know that it is too long (rules 1.11 and 1.15).
@@ -18,45 +22,81 @@ const ENTRIES: usize = 4 * Trace::LINES;
 // Returned in place of a size if a file cannot be read.
 const NONE: usize = usize::MAX;
 
-fn usage() {
-    say(b"usage: compare FIRST SECOND\n");
-    say(b"FIRST and SECOND are files of up to 512 lines in hexadecimal, one datagram a line\n");
+// The room for the name of a file.
+const PATH: usize = 4096;
+
+fn usage(rt: HostRuntime) {
+    let to = rt.stderr();
+    say(to, b"usage: compare FIRST SECOND\n");
+    say(
+        to,
+        b"FIRST and SECOND are files of up to 512 lines in hexadecimal, one datagram a line\n",
+    );
 }
 
-// Reads the text of a file to the front of a buffer, and returns how many characters it has; if it cannot, prints why and returns NONE. It
-// tries to read one more octet, to know whether the file ended there (rule 22.25).
-fn read_text(path: &[u8], text: &mut [u8]) -> usize {
-    let file = os::open_read(path);
-    if file < 0 {
-        os::fail(path);
-        return NONE;
+fn open(rt: HostRuntime, path: &[u8]) -> io::Result<File> {
+    match str::from_utf8(path) {
+        Ok(name) => File::open(&rt, name),
+        Err(_) => {
+            let why = "the name is not UTF-8";
+            Err(io::Error::new(io::ErrorKind::InvalidInput, why))
+        }
     }
-    let size = io::read_full(file, text);
+}
+
+// Fills a buffer from its front until it is full or the file ends, and returns how many characters it has then. Each read but the last
+// gives one or more.
+fn read_full(file: &mut File, text: &mut [u8]) -> io::Result<usize> {
+    let mut size = 0;
+    for _ in 0..text.len() {
+        if text.len() <= size {
+            break;
+        }
+        let got = file.read(&mut text[size..])?;
+        if got == 0 {
+            break;
+        }
+        size += got;
+    }
+    Ok(size)
+}
+
+// Reads the text of a file to the front of a buffer, and returns how many characters it has; if there are more, prints that and returns
+// NONE. It tries to read one more octet, to know whether the file ended there (rule 22.25).
+fn read_text(rt: HostRuntime, path: &[u8], text: &mut [u8]) -> io::Result<usize> {
+    let mut file = open(rt, path)?;
+    let size = read_full(&mut file, text)?;
     let mut next = [0u8; 1];
-    let more = libc::read(file, &mut next);
-    if more < 0 {
-        os::fail(path);
-        return NONE;
-    }
-    libc::close(file);
+    let more = file.read(&mut next)?;
     if more > 0 {
-        say(b"compare: ");
-        say(path);
-        say(b" is too long: it may have 512 lines\n");
-        return NONE;
+        let to = rt.stderr();
+        say(to, b"compare: ");
+        say(to, path);
+        say(to, b" is too long: it may have 512 lines\n");
+        return Ok(NONE);
     }
-    size
+    Ok(size)
+}
+
+// Reads a file; if it cannot, prints why and returns NONE.
+fn read_named(rt: HostRuntime, path: &[u8], text: &mut [u8]) -> io::Result<usize> {
+    match read_text(rt, path, text) {
+        Ok(size) => Ok(size),
+        Err(error) => {
+            fail(rt, path, error)?;
+            Ok(NONE)
+        }
+    }
 }
 
 // Reads the file that an argument names.
-fn read_argument(at: usize, text: &mut [u8]) -> usize {
-    let mut path = io::buffer();
-    let size = os::arg(at, &mut path);
-    if os::errno() != 0 {
-        usage();
-        return NONE;
-    }
-    read_text(&path[..size], text)
+fn read_argument(rt: HostRuntime, at: usize, text: &mut [u8]) -> io::Result<usize> {
+    let mut path = [0u8; PATH];
+    let Ok(size) = rt.arg(at, &mut path) else {
+        usage(rt);
+        return Ok(NONE);
+    };
+    read_named(rt, &path[..size], text)
 }
 
 // The first `size` characters, or none if there are fewer.
@@ -69,30 +109,32 @@ fn front(text: &[u8], size: usize) -> &[u8] {
 }
 
 // Compares and writes the answer. The list is large enough for any two traces (rule 22.19).
-fn tell(first: &[u8], second: &[u8]) {
+fn tell(out: &mut Out, first: &[u8], second: &[u8]) {
     let mut list = [0u16; Entry::SIZE * ENTRIES];
     let answer = trace_compare_code::compare(first, second, &mut list);
     match answer {
-        Compared::Entries(count) => telling::tell_entries(&list, count),
-        Compared::Refused { why, trace, line } => telling::tell_refused(why, trace, line),
+        Compared::Entries(count) => telling::tell_entries(out, &list, count),
+        Compared::Refused { why, trace, line } => telling::tell_refused(out, why, trace, line),
     }
 }
 
 // Reads both files, each to its own buffer, and compares them.
-fn run(first: &mut [u8], second: &mut [u8]) {
-    let size = read_argument(1, first);
+fn run(rt: HostRuntime, first: &mut [u8], second: &mut [u8]) -> io::Result<()> {
+    let mut out = BufWriter::new(rt.alloc(), rt.stdout())?;
+    let size = read_argument(rt, 1, first)?;
     if size == NONE {
-        return;
+        return Ok(());
     }
-    let other = read_argument(2, second);
+    let other = read_argument(rt, 2, second)?;
     if other == NONE {
-        return;
+        return Ok(());
     }
-    tell(front(first, size), front(second, other))
+    tell(&mut out, front(first, size), front(second, other));
+    Ok(())
 }
 
-fn main() {
+fn main(rt: HostRuntime) -> io::Result<()> {
     let mut first = [0u8; TEXT];
     let mut second = [0u8; TEXT];
-    run(&mut first, &mut second)
+    run(rt, &mut first, &mut second)
 }

@@ -1,21 +1,41 @@
 // What is written: the answer to standard output, everything else to standard error.
 use length::Refusal;
-use libc::{STDERR_FILENO, STDOUT_FILENO};
+use std::io;
+use std::io::{BufWriter, Stderr, Stdout, Write};
 use trace_compare::Entry;
 
-pub fn say(text: &[u8]) {
-    io::write_all(STDERR_FILENO, text);
+// Standard output behind a buffer.
+pub type Out = BufWriter<Stdout>;
+
+pub fn say(mut to: Stderr, text: &[u8]) {
+    let _ = to.write_all(text);
 }
 
-fn tell_entry(number: u16, code: u16) {
-    io::print_hex(STDOUT_FILENO, number as u64, 4);
-    io::write_all(STDOUT_FILENO, b" ");
-    io::print_decimal(STDOUT_FILENO, code as u64);
-    io::write_all(STDOUT_FILENO, b"\n");
+// The text of an error without its number.
+fn words_of(text: &str) -> &str {
+    match text.split_once(" (os error ") {
+        Some((words, _)) => words,
+        None => text,
+    }
+}
+
+// Writes a line that says what failed: a name, and the system's words for the error (rule 22.25).
+pub fn fail(rt: HostRuntime, name: &[u8], error: io::Error) -> io::Result<()> {
+    let text = format!(in rt.alloc(); "{error}")?;
+    let to = rt.stderr();
+    say(to, name);
+    say(to, b": ");
+    say(to, words_of(text.as_str()).as_bytes());
+    say(to, b"\n");
+    Ok(())
+}
+
+fn tell_entry(out: &mut Out, number: u16, code: u16) {
+    let _ = writeln!(out, "{number:04x} {code}");
 }
 
 // Writes the first `count` entries of a list, two numbers each (rule 22.2).
-pub fn tell_entries(list: &[u16], count: usize) {
+pub fn tell_entries(out: &mut Out, list: &[u16], count: usize) {
     let mut left = count;
     let mut at = 0;
     while left > 0 {
@@ -26,20 +46,12 @@ pub fn tell_entries(list: &[u16], count: usize) {
         let number = list[at];
         let code = list[at + 1];
         at += Entry::SIZE;
-        tell_entry(number, code);
+        tell_entry(out, number, code);
     }
 }
 
-fn tell_number(n: usize) {
-    io::write_all(STDOUT_FILENO, b" ");
-    io::print_decimal(STDOUT_FILENO, n as u64);
-}
-
-pub fn tell_refused(why: Refusal, trace: u8, line: usize) {
-    io::write_all(STDOUT_FILENO, b"refused");
-    tell_number(why.number as usize);
-    tell_number(why.place);
-    tell_number(trace as usize);
-    tell_number(line);
-    io::write_all(STDOUT_FILENO, b"\n");
+pub fn tell_refused(out: &mut Out, why: Refusal, trace: u8, line: usize) {
+    let number = why.number;
+    let place = why.place;
+    let _ = writeln!(out, "refused {number} {place} {trace} {line}");
 }

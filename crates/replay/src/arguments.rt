@@ -1,5 +1,6 @@
 // The numbers to drop, from the arguments: in decimal, or `0x` and hexadecimal digits (rules 21.8 and 21.10).
 use crate::telling::say;
+use std::env::{Env, FillError};
 
 // At most as many arguments as there are numbers of 16 bits.
 pub const MOST: usize = 65536;
@@ -14,6 +15,9 @@ const LONGEST: usize = 32;
 const NO_DIGIT: u32 = 16;
 
 const NO_NUMBER: u32 = 65536;
+
+// Returned behind the last argument.
+const NO_ARGUMENT: u32 = 65537;
 
 fn digit(c: u8) -> u32 {
     let n = std::num::wrapping_sub_u8(c, b'0') as u32;
@@ -64,42 +68,56 @@ fn number_in(text: &[u8]) -> u32 {
     number(text, 10)
 }
 
-// The number in an argument; if it is none, prints why and returns NO_NUMBER.
-fn number_at(at: usize) -> u32 {
-    let mut text = [0u8; LONGEST];
-    let size = os::arg(at, &mut text);
-    if os::errno() == 0 {
-        let n = number_in(&text[..size]);
-        if n < NO_NUMBER {
-            return n;
-        }
-        say(b"replay: ");
-        say(&text[..size]);
-        say(b" is not a number to drop: 0 to 65535 in decimal, or 0x and hexadecimal digits\n");
-        return NO_NUMBER;
+// The number in a text; if it is none, prints why and returns NO_NUMBER.
+fn number_or_none(rt: HostRuntime, text: &[u8]) -> u32 {
+    let n = number_in(text);
+    if n < NO_NUMBER {
+        return n;
     }
-    say(b"replay: an argument is too long for a number\n");
+    let to = rt.stderr();
+    say(to, b"replay: ");
+    say(to, text);
+    say(
+        to,
+        b" is not a number to drop: 0 to 65535 in decimal, or 0x and hexadecimal digits\n",
+    );
     NO_NUMBER
 }
 
+// The number in an argument, or NO_ARGUMENT; if it holds none, prints why and returns NO_NUMBER.
+fn number_at(rt: HostRuntime, at: usize) -> u32 {
+    let mut text = [0u8; LONGEST];
+    match rt.arg(at, &mut text) {
+        Ok(size) => number_or_none(rt, &text[..size]),
+        Err(FillError::NotPresent) => NO_ARGUMENT,
+        Err(FillError::TooLong) => {
+            say(
+                rt.stderr(),
+                b"replay: an argument is too long for a number\n",
+            );
+            NO_NUMBER
+        }
+    }
+}
+
 // Writes the numbers in the arguments after the trace to the front of `out`, and returns how many there are, or NONE if one is wrong.
-pub fn numbers(out: &mut [u16; MOST]) -> usize {
-    let last = os::arg_count();
-    let mut at = 2;
+pub fn numbers(rt: HostRuntime, out: &mut [u16; MOST]) -> usize {
     let mut count = 0;
-    while at < last {
-        let n = number_at(at);
+    for at in 2..usize::MAX {
+        let n = number_at(rt, at);
+        if n == NO_ARGUMENT {
+            return count;
+        }
         if n == NO_NUMBER {
             return NONE;
         }
         if count == MOST {
-            say(b"replay: more than 65536 numbers\n");
+            say(rt.stderr(), b"replay: more than 65536 numbers\n");
             return NONE;
         }
         let place = count % MOST;
         out[place] = (n % NO_NUMBER) as u16;
         count = place + 1;
-        at += 1;
     }
     count
 }

@@ -10,10 +10,17 @@ mod telling;
 
 use arguments::{MOST, NONE, first};
 use session_held::Session;
-use telling::say;
+use std::env::Env;
+use std::fs::File;
+use std::{io, str};
+use telling::{fail, say};
 
-fn usage() {
+// The room for the name of a file.
+const PATH: usize = 4096;
+
+fn usage(rt: HostRuntime) {
     say(
+        rt.stderr(),
         b"usage: replay TRACE NUMBER..
 TRACE is a file of lines in hexadecimal, one datagram a line; an empty line gives up a number
 NUMBER is a datagram's number to drop, 0 to 65535 in decimal, or 0x and hexadecimal digits
@@ -21,12 +28,19 @@ NUMBER is a datagram's number to drop, 0 to 65535 in decimal, or 0x and hexadeci
     );
 }
 
-// Replays the trace in a file.
-fn replay(path: &[u8], numbers: &[u16]) {
-    let file = os::open_read(path);
-    if file < 0 {
-        return os::fail(path);
+fn open(rt: HostRuntime, path: &[u8]) -> io::Result<File> {
+    match str::from_utf8(path) {
+        Ok(name) => File::open(&rt, name),
+        Err(_) => {
+            let why = "the name is not UTF-8";
+            Err(io::Error::new(io::ErrorKind::InvalidInput, why))
+        }
     }
+}
+
+// Replays the trace in a file.
+fn replay(rt: HostRuntime, path: &[u8], numbers: &[u16]) -> io::Result<()> {
+    let mut file = open(rt, path)?;
     let session = Session::fresh();
     let base = session.base;
     let counts = session.counts;
@@ -34,32 +48,40 @@ fn replay(path: &[u8], numbers: &[u16]) {
     let mut octets = session.octets;
     let mut messages = session.messages;
     let told = playing::play(
-        file,
-        path,
+        &mut file,
+        rt.stdout(),
         base,
         counts,
         &mut table,
         &mut octets,
         &mut messages,
         numbers,
-    );
-    libc::close(file);
+    )?;
     if told.well {
         let last = told.counts;
-        telling::say_counts(last);
+        telling::say_counts(rt.stderr(), last);
+    }
+    Ok(())
+}
+
+// Replays the trace of that name without these numbers, and says so if it cannot be read.
+fn run(rt: HostRuntime, path: &[u8], numbers: &[u16]) -> io::Result<()> {
+    match replay(rt, path, numbers) {
+        Ok(()) => Ok(()),
+        Err(error) => fail(rt, path, error),
     }
 }
 
-fn main() {
-    let mut path = io::buffer();
+fn main(rt: HostRuntime) -> io::Result<()> {
+    let mut path = [0u8; PATH];
     let mut numbers = [0u16; MOST];
-    let size = os::arg(1, &mut path);
-    if os::errno() != 0 {
-        return usage();
-    }
-    let count = arguments::numbers(&mut numbers);
+    let Ok(size) = rt.arg(1, &mut path) else {
+        usage(rt);
+        return Ok(());
+    };
+    let count = arguments::numbers(rt, &mut numbers);
     if count == NONE {
-        return;
+        return Ok(());
     }
-    replay(&path[..size], first(&numbers, count))
+    run(rt, &path[..size], first(&numbers, count))
 }

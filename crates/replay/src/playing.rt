@@ -7,6 +7,12 @@ ghost use Rattle.line.specs.FeedPromise.{Feedable};
 use crate::taking::{Going, end_line, hand_over, take_block};
 use line::Line;
 use session_held::{Counts, Session};
+use std::fs::File;
+use std::io;
+use std::io::{Read, Stdout};
+
+// How many characters of the trace are read at once, and how much text may wait.
+const BLOCK: usize = 65536;
 
 // The counts at the end, and whether every read and write succeeded (rule 21.11).
 #[derive(Drop)]
@@ -17,6 +23,7 @@ pub struct Told {
 
 // The end of the trace: a last line without a line feed counts unless it is empty (rule 21.9). Then all waiting text is written.
 fn finish(
+    to: Stdout,
     from: Going,
     t: &mut [u16; Session::PLACES],
     o: &mut [u8; Session::PACKET_OCTETS],
@@ -32,10 +39,10 @@ fn finish(
     if begun == 0 {
         let counts = from.counts;
         let end = from.end;
-        let well = hand_over(out, end);
+        let well = hand_over(to, out, end);
         return Told { counts, well };
     }
-    let last = end_line(from, t, o, g, numbers, &line[..begun], out);
+    let last = end_line(to, from, t, o, g, numbers, &line[..begun], out);
     let counts = last.counts;
     let end = last.end;
     if !last.well {
@@ -44,27 +51,27 @@ fn finish(
             well: false,
         };
     }
-    let well = hand_over(out, end);
+    let well = hand_over(to, out, end);
     Told { counts, well }
 }
 
 // Plays block after block, then the end. A proved loop must terminate, but a file may never end: so the loop counts its turns down, from a
 // number that no run can use up.
 pub fn play(
-    file: i32,
-    path: &[u8],
+    file: &mut File,
+    to: Stdout,
     base: u16,
     counts: Counts,
     t: &mut [u16; Session::PLACES],
     o: &mut [u8; Session::PACKET_OCTETS],
     g: &mut [u8; Session::MESSAGE_OCTETS],
     numbers: &[u16],
-) -> Told
+) -> io::Result<Told>
     requires { InRanges (lent base counts t.old o.old g.old) }
 {
     let mut line = [0u8; Line::KEPT];
-    let mut block = io::large_buffer();
-    let mut out = io::large_buffer();
+    let mut block = [0u8; BLOCK];
+    let mut out = [0u8; BLOCK];
     let mut after = base;
     let mut moves = counts;
     let mut begun = 0;
@@ -72,18 +79,10 @@ pub fn play(
     let mut turns = u64::MAX;
     while turns > 0 {
         turns -= 1;
-        let got = libc::read(file, &mut block);
-        if got < 0 {
-            os::fail(path);
-            return Told {
-                counts: moves,
-                well: false,
-            };
-        }
-        if got == 0 {
+        let n = file.read(&mut block)?;
+        if n == 0 {
             turns = 0;
         } else {
-            let n = io::count(got, &block);
             let at = Going {
                 base: after,
                 counts: moves,
@@ -91,17 +90,17 @@ pub fn play(
                 end,
                 well: true,
             };
-            let next = take_block(at, t, o, g, numbers, &mut line, &block[..n], &mut out);
+            let next = take_block(to, at, t, o, g, numbers, &mut line, &block[..n], &mut out);
             after = next.base;
             let moved = next.counts;
             moves = moved;
             begun = next.begun;
             end = next.end;
             if !next.well {
-                return Told {
+                return Ok(Told {
                     counts: moves,
                     well: false,
-                };
+                });
             }
         }
     }
@@ -112,5 +111,5 @@ pub fn play(
         end,
         well: true,
     };
-    finish(last, t, o, g, numbers, &line, &mut out)
+    Ok(finish(to, last, t, o, g, numbers, &line, &mut out))
 }

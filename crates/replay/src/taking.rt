@@ -6,10 +6,10 @@ ghost use Rattle.line.specs.Promise.{Able, step_limit};
 ghost use Rattle.line.specs.FeedPromise.{Feedable};
 ghost use Rattle.replay.specs.Promise.{Writes, Goes};
 
-use libc::STDOUT_FILENO;
 use line::Line;
 use line_code::{clear_line, find_feed, keep_line};
 use session_held::{Counts, Session};
+use std::io::Stdout;
 use trace_replay_code::replay_line;
 
 // Base and counts of the session, how many characters of a line are kept, how much text waits, and whether every write succeeded.
@@ -23,14 +23,15 @@ pub struct Going {
 }
 
 // Writes the waiting text to standard output.
-pub fn hand_over(out: &[u8], end: usize) -> bool
+pub fn hand_over(to: Stdout, out: &[u8], end: usize) -> bool
     requires { end ≤ length out.now }
 {
-    io::write_all(STDOUT_FILENO, &out[..end])
+    to.write_all(&out[..end]).is_ok()
 }
 
 // Takes a whole line. Its text joins the waiting text, which is written if the next line might not fit.
 pub fn end_line(
+    to: Stdout,
     from: Going,
     t: &mut [u16; Session::PLACES],
     o: &mut [u8; Session::PACKET_OCTETS],
@@ -51,7 +52,7 @@ pub fn end_line(
     let moves = made.counts;
     let end = made.end;
     if out.len() - end < Line::STEP {
-        let well = hand_over(out, end);
+        let well = hand_over(to, out, end);
         return Going {
             base: after,
             counts: moves,
@@ -71,6 +72,7 @@ pub fn end_line(
 
 // Takes a line up to its line feed; its front may be kept from the last block.
 fn take_line(
+    to: Stdout,
     from: Going,
     t: &mut [u16; Session::PLACES],
     o: &mut [u8; Session::PACKET_OCTETS],
@@ -87,16 +89,17 @@ fn take_line(
 {
     let begun = from.begun;
     if begun == 0 {
-        return end_line(from, t, o, g, numbers, more, out);
+        return end_line(to, from, t, o, g, numbers, more, out);
     }
     let kept = keep_line(line, begun, more);
-    let next = end_line(from, t, o, g, numbers, &line[..kept], out);
+    let next = end_line(to, from, t, o, g, numbers, &line[..kept], out);
     clear_line(line, kept);
     next
 }
 
 // Takes a block of the trace: its lines in order, and the front of the last one is kept.
 pub fn take_block(
+    to: Stdout,
     from: Going,
     t: &mut [u16; Session::PLACES],
     o: &mut [u8; Session::PACKET_OCTETS],
@@ -136,7 +139,7 @@ pub fn take_block(
             end,
             well: true,
         };
-        let next = take_line(here, t, o, g, numbers, line, &block[at..feed], out);
+        let next = take_line(to, here, t, o, g, numbers, line, &block[at..feed], out);
         base = next.base;
         let moved = next.counts;
         counts = moved;
