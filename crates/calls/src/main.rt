@@ -6,10 +6,12 @@ mod compare;
 mod input;
 mod replay;
 
-use calls_lines::{CAP, FILLING, number, octet, part, say_no_call};
+use calls_lines::{CAP, FILLING, Out, number, octet, part, say_no_call};
 use calls_sessions::Held;
 use input::{KEPT, octets_of};
 use program_input::{BLOCK, read_line};
+use std::io;
+use std::io::{BufWriter, Stdin, Write};
 
 // Any number of octets of arguments: the arguments themselves say how many.
 const ANY: usize = 15;
@@ -62,20 +64,20 @@ fn cap_of(octets: &[u8], size: usize) -> usize {
 }
 
 // Makes the call of a line, and returns what the program holds after it.
-fn called(held: Held, call: u8, octets: &[u8], lent: &mut [u8]) -> Held {
+fn called(out: &mut Out, held: Held, call: u8, octets: &[u8], lent: &mut [u8]) -> Held {
     if call < 0x10 {
-        calls_lines::answer(call, octets, lent);
+        calls_lines::answer(out, call, octets, lent);
         return held;
     }
-    calls_sessions::answer(held, call, octets, lent)
+    calls_sessions::answer(out, held, call, octets, lent)
 }
 
 // Makes the calls that need a larger buffer or list of their own. They change nothing that the program holds (rule 25.45).
-fn called_apart(held: Held, call: u8, octets: &[u8], cap: usize) {
+fn called_apart(out: &mut Out, held: Held, call: u8, octets: &[u8], cap: usize) {
     match call {
-        0x40 => replay::answer(octets, cap),
-        0x50 => compare::answer(octets, cap),
-        _ => calls_sessions::write_image(held, cap),
+        0x40 => replay::answer(out, octets, cap),
+        0x50 => compare::answer(out, octets, cap),
+        _ => calls_sessions::write_image(out, held, cap),
     }
 }
 
@@ -86,7 +88,7 @@ fn call_of(octets: &[u8]) -> u8 {
 }
 
 // Answers a line of `count` octets. The call gets the first octets of `all`, as many as its cap says, as its buffer (rule 25.4).
-fn answered(held: Held, line: &[u8; KEPT], count: usize, all: &mut [u8]) -> Held {
+fn answered(out: &mut Out, held: Held, line: &[u8; KEPT], count: usize, all: &mut [u8]) -> Held {
     let octets = part(line, 0, count);
     let call = call_of(octets);
     let size = size_of(call, octets.len());
@@ -94,20 +96,22 @@ fn answered(held: Held, line: &[u8; KEPT], count: usize, all: &mut [u8]) -> Held
         let cap = cap_of(octets, size);
         let arguments = part(octets, 1, size);
         if (call == 0x18) | (call == 0x40) | (call == 0x50) {
-            called_apart(held, call, arguments, cap);
+            called_apart(out, held, call, arguments, cap);
             return held;
         }
         if cap <= all.len() {
             let start = 0;
-            return called(held, call, arguments, &mut all[start..cap]);
+            return called(out, held, call, arguments, &mut all[start..cap]);
         }
     }
-    say_no_call();
+    say_no_call(out);
     held
 }
 
 // Reads one line of the input, and answers it unless it is empty (rule 25.6). What `line` and `octets` held before does not matter.
 fn turn(
+    out: &mut Out,
+    input: &mut Stdin,
     held: Held,
     block: &mut [u8; BLOCK],
     at: &mut usize,
@@ -116,17 +120,20 @@ fn turn(
     octets: &mut [u8; KEPT],
 ) -> Held {
     let mut all = [FILLING; CAP];
-    let size = read_line(block, at, end, line);
+    let size = read_line(input, block, at, end, line);
     if size == 0 {
         return held;
     }
     let count = octets_of(line, size, octets);
-    let after = answered(held, octets, count, &mut all);
-    io::write_all(1, b"\n");
+    let after = answered(out, held, octets, count, &mut all);
+    let _ = out.write_all(b"\n");
+    let _ = out.flush();
     after
 }
 
-fn main() {
+fn main(rt: HostRuntime) -> io::Result<()> {
+    let mut input = rt.stdin();
+    let mut out = BufWriter::new(rt.alloc(), rt.stdout())?;
     let mut held = Held::fresh();
     let mut block = [0u8; BLOCK];
     let mut line = [0u8; KEPT];
@@ -137,10 +144,20 @@ fn main() {
     let mut turns = u64::MAX;
     while turns > 0 {
         turns -= 1;
-        let after = turn(held, &mut block, &mut at, &mut end, &mut line, &mut octets);
+        let after = turn(
+            &mut out,
+            &mut input,
+            held,
+            &mut block,
+            &mut at,
+            &mut end,
+            &mut line,
+            &mut octets,
+        );
         held = after;
         if end == 0 {
-            return;
+            return Ok(());
         }
     }
+    Ok(())
 }

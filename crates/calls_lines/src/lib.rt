@@ -8,8 +8,8 @@ mod fields;
 mod items;
 
 pub use answers::{
-    CAP, FILLING, LONGEST, say, say_all, say_done, say_long, say_no_call, say_numbers, say_refused,
-    say_sized, say_written,
+    CAP, FILLING, LONGEST, Out, say, say_all, say_done, say_long, say_no_call, say_numbers,
+    say_refused, say_sized, say_written,
 };
 pub use arguments::{first, number, numbers, octet, part, sized};
 pub use fields::{Row, Target, fits, row_of, target_of};

@@ -8,6 +8,7 @@ mod receiver;
 mod send_calls;
 mod session;
 
+use calls_lines::Out;
 use frame::Joiner;
 use sender::Sender;
 use session_calls::Session;
@@ -35,28 +36,28 @@ impl Held {
 }
 
 // Makes the call of a line, by its group, and returns what the program holds after it.
-pub fn answer(held: Held, call: u8, octets: &[u8], lent: &mut [u8]) -> Held {
+pub fn answer(out: &mut Out, held: Held, call: u8, octets: &[u8], lent: &mut [u8]) -> Held {
     let mut r = held;
     if call < 0x20 {
         let receiver = held.receiver;
-        let after = receiver::answer(receiver, call, octets, lent);
+        let after = receiver::answer(out, receiver, call, octets, lent);
         r.receiver = after;
         return r;
     }
     if call < 0x30 {
         let sender = held.sender;
-        let after = send_calls::answer(sender, call, octets, lent);
+        let after = send_calls::answer(out, sender, call, octets, lent);
         r.sender = after;
         return r;
     }
     let joiner = held.joiner;
-    let after = joiner::answer(joiner, call, octets, lent);
+    let after = joiner::answer(out, joiner, call, octets, lent);
     r.joiner = after;
     r
 }
 
 // 18: writes the receiving session as an image (rule 25.23).
-pub fn write_image(held: Held, cap: usize) {
+pub fn write_image(out: &mut Out, held: Held, cap: usize) {
     let receiver = held.receiver;
-    image_calls::write(receiver, cap)
+    image_calls::write(out, receiver, cap)
 }

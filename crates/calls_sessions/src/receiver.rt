@@ -2,17 +2,17 @@
 use crate::image_calls::restored;
 use crate::session::{gone_on, overwritten, say_counts, say_view};
 use calls_lines::{
-    fits, number, octet, row_of, say, say_all, say_done, say_no_call, say_refused, target_of,
+    Out, fits, number, octet, row_of, say, say_all, say_done, say_no_call, say_refused, target_of,
 };
 use session_calls::{Offered, ReleaseKind, Released, Session, Solved};
 
 // 11: offers a datagram (rule 25.16).
-fn offer(session: Session, octets: &[u8]) -> Session {
+fn offer(out: &mut Out, session: Session, octets: &[u8]) -> Session {
     let after = session_calls::offer(session, octets);
     let answer = after.answer;
     match answer {
-        Offered::Accepted => say(0, 1),
-        Offered::Refused(why) => say_refused(why),
+        Offered::Accepted => say(out, 0, 1),
+        Offered::Refused(why) => say_refused(out, why),
     }
     let held = after.session;
     held
@@ -27,35 +27,35 @@ fn kind_octet(kind: ReleaseKind) -> usize {
     }
 }
 
-fn say_released(answer: Released) {
+fn say_released(out: &mut Out, answer: Released) {
     match answer {
-        Released::Refused(why) => say_refused(why),
+        Released::Refused(why) => say_refused(out, why),
         Released::Number {
             kind,
             number,
             note,
             size,
         } => {
-            say_done(kind_octet(kind), 1);
-            say(number as u32, 2);
-            say(note as u32, 2);
-            say((size % 65536) as u32, 2);
+            say_done(out, kind_octet(kind), 1);
+            say(out, number as u32, 2);
+            say(out, note as u32, 2);
+            say(out, (size % 65536) as u32, 2);
         }
     }
 }
 
 // 12: releases a number, with leave to skip or without (rule 25.17).
-fn release(session: Session, octets: &[u8], lent: &mut [u8]) -> Session {
+fn release(out: &mut Out, session: Session, octets: &[u8], lent: &mut [u8]) -> Session {
     let mut at = 0;
     let leave = octet(octets, &mut at);
     if 1 < leave {
-        say_no_call();
+        say_no_call(out);
         return session;
     }
     let after = session_calls::release(session, leave == 1, lent);
     let answer = after.answer;
-    say_released(answer);
-    say_all(lent);
+    say_released(out, answer);
+    say_all(out, lent);
     let held = after.session;
     held
 }
@@ -77,7 +77,7 @@ pub fn around(times: u32) -> u32 {
 }
 
 // 16: a fresh session after `times` skips (rule 25.21).
-fn many(times: u32) -> Session {
+fn many(out: &mut Out, times: u32) -> Session {
     let mut session = Session::fresh();
     let mut left = around(times);
     while left > 0 {
@@ -86,56 +86,62 @@ fn many(times: u32) -> Session {
         session = next;
         left -= 1;
     }
-    say(0, 1);
+    say(out, 0, 1);
     gone_on(session, times)
 }
 
 // 17: overwrites one field, as a caller could (rule 25.22).
-fn overwrite(session: Session, octets: &[u8]) -> Session {
+fn overwrite(out: &mut Out, session: Session, octets: &[u8]) -> Session {
     let t = target_of(octets);
     let row = row_of(0x1700 + (t.field as u16));
     if fits(row, session.base, t) {
-        say(0, 1);
+        say(out, 0, 1);
         return overwritten(session, t);
     }
-    say_no_call();
+    say_no_call(out);
     session
 }
 
 // 1A: solves (rule 25.25).
-fn solve(session: Session) -> Session {
+fn solve(out: &mut Out, session: Session) -> Session {
     let after = session_calls::solve(session);
     let answer = after.answer;
     match answer {
-        Solved::Filled => say(0, 1),
-        Solved::Refused(why) => say_refused(why),
+        Solved::Filled => say(out, 0, 1),
+        Solved::Refused(why) => say_refused(out, why),
     }
     let held = after.session;
     held
 }
 
-pub fn answer(session: Session, call: u8, octets: &[u8], lent: &mut [u8]) -> Session {
+pub fn answer(
+    out: &mut Out,
+    session: Session,
+    call: u8,
+    octets: &[u8],
+    lent: &mut [u8],
+) -> Session {
     match call {
         0x10 => {
-            say(0, 1);
+            say(out, 0, 1);
             Session::fresh()
         }
-        0x11 => offer(session, octets),
-        0x12 => release(session, octets, lent),
+        0x11 => offer(out, session, octets),
+        0x12 => release(out, session, octets, lent),
         0x14 => {
-            say_counts(session);
+            say_counts(out, session);
             session
         }
         0x15 => {
-            say_view(session);
+            say_view(out, session);
             session
         }
         0x16 => {
             let mut at = 0;
-            many(at_most(number(octets, &mut at, 4)))
+            many(out, at_most(number(octets, &mut at, 4)))
         }
-        0x19 => restored(session, octets),
-        0x1A => solve(session),
-        _ => overwrite(session, octets),
+        0x19 => restored(out, session, octets),
+        0x1A => solve(out, session),
+        _ => overwrite(out, session, octets),
     }
 }

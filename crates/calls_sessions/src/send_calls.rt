@@ -1,8 +1,8 @@
 // Lines 20 to 23, on the sending session (rules 25.26 to 25.29).
 use crate::receiver::{around, at_most};
 use calls_lines::{
-    FILLING, PARITY, SPARES, Target, fits, number, octet, row_of, say, say_no_call, say_written,
-    sized, target_of,
+    FILLING, Out, PARITY, SPARES, Target, fits, number, octet, row_of, say, say_no_call,
+    say_written, sized, target_of,
 };
 use datagram::Packet;
 use sender::{Sender, Settings};
@@ -15,7 +15,7 @@ fn settings_of(kind: u8, a: u8, b: u8) -> Settings {
 }
 
 // 21: sends a packet (rule 25.27). With spares another b than 0 is no call (rule 25.5).
-fn send(sender: Sender, octets: &[u8], lent: &mut [u8]) -> Sender {
+fn send(out: &mut Out, sender: Sender, octets: &[u8], lent: &mut [u8]) -> Sender {
     let mut at = 0;
     let packet = sized(octets, &mut at, 2);
     let kind = octet(octets, &mut at);
@@ -25,11 +25,11 @@ fn send(sender: Sender, octets: &[u8], lent: &mut [u8]) -> Sender {
     if named & (at == octets.len()) {
         let after = sender_calls::send(sender, packet, settings_of(kind, a, b), lent);
         let answer = after.answer;
-        say_written(answer, 2, lent);
+        say_written(out, answer, 2, lent);
         let held = after.sender;
         return held;
     }
-    say_no_call();
+    say_no_call(out);
     sender
 }
 
@@ -42,7 +42,7 @@ fn one_sent(sender: Sender) -> Sender {
 }
 
 // 22: a fresh session that has sent `times` packets, each the octet 06, without spares (rule 25.28).
-fn many(times: u32) -> Sender {
+fn many(out: &mut Out, times: u32) -> Sender {
     let mut sender = Sender::fresh();
     let mut left = around(times);
     while left > 0 {
@@ -50,7 +50,7 @@ fn many(times: u32) -> Sender {
         sender = next;
         left -= 1;
     }
-    say(0, 1);
+    say(out, 0, 1);
     sender.sent = times;
     sender
 }
@@ -80,28 +80,28 @@ fn overwritten(sender: Sender, t: Target) -> Sender {
 }
 
 // 23: overwrites one field, as a caller could (rule 25.29).
-fn overwrite(sender: Sender, octets: &[u8]) -> Sender {
+fn overwrite(out: &mut Out, sender: Sender, octets: &[u8]) -> Sender {
     let t = target_of(octets);
     let row = row_of(0x2300 + (t.field as u16));
     if fits(row, (sender.sent % 65536) as u16, t) {
-        say(0, 1);
+        say(out, 0, 1);
         return overwritten(sender, t);
     }
-    say_no_call();
+    say_no_call(out);
     sender
 }
 
-pub fn answer(sender: Sender, call: u8, octets: &[u8], lent: &mut [u8]) -> Sender {
+pub fn answer(out: &mut Out, sender: Sender, call: u8, octets: &[u8], lent: &mut [u8]) -> Sender {
     match call {
         0x20 => {
-            say(0, 1);
+            say(out, 0, 1);
             Sender::fresh()
         }
-        0x21 => send(sender, octets, lent),
+        0x21 => send(out, sender, octets, lent),
         0x22 => {
             let mut at = 0;
-            many(at_most(number(octets, &mut at, 4)))
+            many(out, at_most(number(octets, &mut at, 4)))
         }
-        _ => overwrite(sender, octets),
+        _ => overwrite(out, sender, octets),
     }
 }

@@ -1,6 +1,6 @@
 // What the receiving session holds, read and overwritten field by field: lines 14, 15 and 17 (rules 25.19, 25.20 and 25.22). Only this
 // file depends on how the table and the stores of a receiving session are laid out.
-use calls_lines::{Target, say, say_done, say_sized};
+use calls_lines::{Out, Target, say, say_done, say_sized};
 use datagram::{Packet, Parity};
 use session_calls::{Counts, Session};
 
@@ -103,68 +103,68 @@ pub fn overwritten(session: Session, t: Target) -> Session {
 }
 
 // 14: the counts (rule 25.19).
-pub fn say_counts(session: Session) {
+pub fn say_counts(out: &mut Out, session: Session) {
     let c = session.counts;
-    say(0, 1);
-    say(c.received, 4);
-    say(c.spare, 4);
-    say(c.repaired, 4);
-    say(c.lost, 4);
+    say(out, 0, 1);
+    say(out, c.received, 4);
+    say(out, c.spare, 4);
+    say(out, c.repaired, 4);
+    say(out, c.lost, 4);
 }
 
 // A number in view: state, note and packet (rule 25.20).
-fn say_kept(t: &[u16; Session::PLACES], o: &[u8], number: u16) {
+fn say_kept(out: &mut Out, t: &[u16; Session::PLACES], o: &[u8], number: u16) {
     let state = value_at(t, STATE, number, 0);
-    say((state % 256) as u32, 1);
+    say(out, (state % 256) as u32, 1);
     let note = value_at(t, NOTE, number, 0);
-    say(note as u32, 2);
+    say(out, note as u32, 2);
     let start = (number as usize) % Session::KEPT * Packet::LIMIT;
     let size = value_at(t, SIZE, number, 0);
-    say_sized(o, start, size as usize);
+    say_sized(out, o, start, size as usize);
 }
 
 // Message i of a number, if it has more than i messages.
-fn say_message(t: &[u16; Session::PLACES], g: &[u8], number: u16, i: usize) {
+fn say_message(out: &mut Out, t: &[u16; Session::PLACES], g: &[u8], number: u16, i: usize) {
     let m = value_at(t, M, number, 0);
     if i < m as usize {
         let size = value_at(t, MESSAGE_SIZE, number, i);
         let start = message_slot(number, i) % Session::MESSAGES * Packet::LIMIT;
-        say_sized(g, start, size as usize);
+        say_sized(out, g, start, size as usize);
     }
 }
 
 // A number from the base on: accepted, n, m and its messages (rule 25.20).
-fn say_heard(t: &[u16; Session::PLACES], g: &[u8], number: u16) {
+fn say_heard(out: &mut Out, t: &[u16; Session::PLACES], g: &[u8], number: u16) {
     let accepted = value_at(t, ACCEPTED, number, 0);
-    say((accepted % 256) as u32, 1);
+    say(out, (accepted % 256) as u32, 1);
     let n = value_at(t, N, number, 0);
-    say((n % 256) as u32, 1);
+    say(out, (n % 256) as u32, 1);
     let m = value_at(t, M, number, 0);
-    say((m % 256) as u32, 1);
-    say_message(t, g, number, 0);
-    say_message(t, g, number, 1);
-    say_message(t, g, number, 2);
-    say_message(t, g, number, 3);
+    say(out, (m % 256) as u32, 1);
+    say_message(out, t, g, number, 0);
+    say_message(out, t, g, number, 1);
+    say_message(out, t, g, number, 2);
+    say_message(out, t, g, number, 3);
 }
 
 // 15: the view, which is the 64 numbers in view, then the 32 from the base on (rule 25.20).
-pub fn say_view(session: Session) {
+pub fn say_view(out: &mut Out, session: Session) {
     let base = session.base;
     let table = session.table;
     let octets = session.octets;
     let messages = session.messages;
-    say_done(base as usize, 2);
+    say_done(out, base as usize, 2);
     let mut number = std::num::wrapping_sub_u16(base, 32);
     let mut left: usize = Session::KEPT;
     while left > 0 {
-        say_kept(&table, &octets, number);
+        say_kept(out, &table, &octets, number);
         number = std::num::wrapping_add_u16(number, 1);
         left -= 1;
     }
     number = base;
     left = Session::HEARD;
     while left > 0 {
-        say_heard(&table, &messages, number);
+        say_heard(out, &table, &messages, number);
         number = std::num::wrapping_add_u16(number, 1);
         left -= 1;
     }
