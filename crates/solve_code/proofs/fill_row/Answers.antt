@@ -7,12 +7,14 @@ use Rattle.solve_code.proofs.fill_row.Goals as goal
 pub keep-requires : goal.keep-requires
 keep-requires c =
     record {
-      fields = table-long c.requires.may_fill;
-      text = octets-long c.requires.may_fill;
-      told = may-keep c.args.base c.wrapping_sub_u16-first.result c.if-place-lt-PLACES.true refl c.wrapping_sub_u16-first.ensures.value refl
+      table_len = table-long c.requires.may_fill;
+      octets_len = octets-long c.requires.may_fill;
+      may_keep = may-keep c.args.base c.wrapping_sub_u16-first.result c.if-place-lt-PLACES.true refl c.wrapping_sub_u16-first.ensures.value refl
           c.wrapping_add_u16-number.ensures.value
           c.requires.may_fill;
-      utf8 = (repaired-fills, (repaired-noted 0 _, part-inside c.row_sum-sum.ensures));
+      state_value = repaired-fills;
+      number_value = repaired-noted 0 _;
+      part_inside = part-inside c.row_sum-sum.ensures;
     }
 
 pub returns-then-place-lt-PLACES : goal.returns-then-place-lt-PLACES

@@ -17,7 +17,7 @@ take_line-part-requires c = record { feedable = fed-ready c.loop-taken.invariant
 pub overflow_add-taken : goal.overflow_add-taken
 overflow_add-taken c =
     let inside = left-inside c.args.block.now _ c.loop-taken-test.true c.take_line-part.ensures in
-    record { fits = omega (arith, c.well-formed.1.1.1.1.1.1.1.0, inside) }
+    record { fits = omega (arith, c.well_formed.1.1.1.1.1.1.1.0, inside) }
 
 pub loop-taken-smaller : goal.loop-taken-smaller
 loop-taken-smaller c = omega (arith, c.take_line-part.ensures.some, c.loop-taken-test.true)

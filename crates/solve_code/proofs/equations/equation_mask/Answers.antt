@@ -5,8 +5,10 @@ use Rattle.solve_code.proofs.equations.equation_mask.Goals as goal
 
 pub places_back-members-requires : goal.places_back-members-requires
 places_back-members-requires c =
+    let fits =
     back_fits c.args.base c.requires.searchable c.requires.e_lt_table_rows refl refl refl c.wrapping_add_u16-at.ensures.value
-    c.heard_slot-slot.ensures c.m_at-count.ensures c.if-index-count.true c.n_at-covered.ensures refl refl refl refl refl
+    c.heard_slot-slot.ensures c.m_at-count.ensures c.if-index-count.true c.n_at-covered.ensures refl refl refl refl refl in
+    record { m_bound = fits.0; at_bound = fits.1 }
 
 pub returns-then-index-count : goal.returns-then-index-count
 returns-then-index-count c =

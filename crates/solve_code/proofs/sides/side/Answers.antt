@@ -7,16 +7,15 @@ use Rattle.solve_code.proofs.sides.side.Goals as goal
 pub asked-requires : goal.asked-requires
 asked-requires c =
     record {
-      fields = c.requires.may_mend;
-      text = omega (arith, c.requires.e_lt_table_rows);
-      told = omega (arith, c.requires.e_lt_table_rows);
-      utf8 = (
-        index-there c.args.base c.args.table.now c.requires.e_lt_table_rows refl refl refl c.wrapping_add_u16-at.ensures.value
-            c.heard_slot-slot.ensures
-            c.m_at-count.ensures
-            c.if-index-count.true,
-        omega arith,
-      );
+      may_mend = c.requires.may_mend;
+      distance_lt_kept_ahead = omega (arith, c.requires.e_lt_table_rows);
+      index_lt_messages_limit = omega (arith, c.requires.e_lt_table_rows);
+      index_bound =
+          index-there c.args.base c.args.table.now c.requires.e_lt_table_rows refl refl refl c.wrapping_add_u16-at.ensures.value
+          c.heard_slot-slot.ensures
+          c.m_at-count.ensures
+          c.if-index-count.true;
+      width_le_packet_limit = omega arith;
     }
 
 pub returns-then-index-count : goal.returns-then-index-count

@@ -6,7 +6,7 @@ use Rattle.trace_compare_code.proofs.differing.shape_of.Goals as goal
 pub overflow_add-end : goal.overflow_add-end
 overflow_add-end c =
     let end = end-inside c.read-found.ensures (λ k. (c.type_inv.octets k).fits) c.in-Datagram.is in
-    record { fits = omega (arith, end, c.well-formed.0) }
+    record { fits = omega (arith, end, c.well_formed.0) }
 
 pub returns-in-Datagram : goal.returns-in-Datagram
 returns-in-Datagram c =

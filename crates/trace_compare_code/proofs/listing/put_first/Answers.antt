@@ -9,13 +9,13 @@ pub slice_bounds-count_of-end : goal.slice_bounds-count_of-end
 slice_bounds-count_of-end c = sym (length-take-le _ _ (omega (arith, c.requires.i_in_bounds)))
 
 pub offset_bounds-from-i : goal.offset_bounds-from-i
-offset_bounds-from-i c = record { fits = omega (arith, start-there c.requires.kept_trace c.requires.i_in_bounds, c.well-formed.1.1.0) }
+offset_bounds-from-i c = record { fits = omega (arith, start-there c.requires.kept_trace c.requires.i_in_bounds, c.well_formed.1.1.0) }
 
 pub bounds-from-i : goal.bounds-from-i
 bounds-from-i c = start-there c.requires.kept_trace c.requires.i_in_bounds
 
 pub offset_bounds-to-j : goal.offset_bounds-to-j
-offset_bounds-to-j c = record { fits = omega (arith, start-there c.requires.kept_trace_2 c.if-j-b.true, c.well-formed.1.1.1.1.1.0) }
+offset_bounds-to-j c = record { fits = omega (arith, start-there c.requires.kept_trace_2 c.if-j-b.true, c.well_formed.1.1.1.1.1.0) }
 
 pub bounds-to-j : goal.bounds-to-j
 bounds-to-j c = start-there c.requires.kept_trace_2 c.if-j-b.true

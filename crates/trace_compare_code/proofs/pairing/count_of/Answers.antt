@@ -8,7 +8,7 @@ pub loop-i-init : goal.loop-i-init
 loop-i-init c = counted_start _ _
 
 pub overflow_add-count : goal.overflow_add-count
-overflow_add-count c = record { fits = omega (arith, c.loop-i.invariant.few, c.well-formed.0) }
+overflow_add-count c = record { fits = omega (arith, c.loop-i.invariant.few, c.well_formed.0) }
 
 pub loop-i-preserved-then-here-number : goal.loop-i-preserved-then-here-number
 loop-i-preserved-then-here-number c = counted-hit c.loop-i.invariant c.loop-i-test.true c.if-here-number.true

@@ -8,7 +8,7 @@ pub loop-at-init : goal.loop-at-init
 loop-at-init c = lines_start _
 
 pub overflow_add-count : goal.overflow_add-count
-overflow_add-count c = record { fits = omega (arith, c.loop-at.invariant.few, c.loop-at.invariant.inside, c.well-formed.0) }
+overflow_add-count c = record { fits = omega (arith, c.loop-at.invariant.few, c.loop-at.invariant.inside, c.well_formed.0) }
 
 pub loop-at-smaller : goal.loop-at-smaller
 loop-at-smaller c = omega (arith, c.line_at-line.ensures.on, c.line_at-line.ensures.inside)

@@ -19,7 +19,7 @@ returns-in-Refused c = turn-refused c.loop-at.invariant.0 c.line_at-here.ensures
 pub overflow_add-line : goal.overflow_add-line
 overflow_add-line c =
     let u = c.loop-at.invariant.0 in
-    record { fits = omega (arith, u.line, u.lines.few, u.lines.inside, c.well-formed.1.0) }
+    record { fits = omega (arith, u.line, u.lines.few, u.lines.inside, c.well_formed.1.0) }
 
 pub loop-at-smaller : goal.loop-at-smaller
 loop-at-smaller c = omega (arith, c.line_at-here.ensures.on, c.line_at-here.ensures.inside)

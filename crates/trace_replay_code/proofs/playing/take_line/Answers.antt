@@ -11,12 +11,12 @@ slice_bounds-replay_line-end c = sym (length-take-le _ _ c.find_feed-stop.ensure
 pub overflow_add-end : goal.overflow_add-end
 overflow_add-end c =
     let inside = end-inside c.args.trace.now c.requires.at_in_bounds c.find_feed-stop.ensures in
-    record { fits = omega (arith, c.well-formed.1.1.1.1.1.1.0, inside) }
+    record { fits = omega (arith, c.well_formed.1.1.1.1.1.1.0, inside) }
 
 pub overflow_add-next : goal.overflow_add-next
 overflow_add-next c =
     let inside = end-inside c.args.trace.now c.requires.at_in_bounds c.find_feed-stop.ensures in
-    record { fits = omega (arith, c.well-formed.1.1.1.1.1.1.0, inside) }
+    record { fits = omega (arith, c.well_formed.1.1.1.1.1.1.0, inside) }
 
 pub returns-then-stop-rest : goal.returns-then-stop-rest
 returns-then-stop-rest c = takes-line _ _ _ c.requires.at_in_bounds c.find_feed-stop.ensures c.replay_line-made.ensures c.if-stop-rest.true refl
