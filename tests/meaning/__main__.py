@@ -41,7 +41,7 @@ def meaning_files(crate):
 
 def module_text(module):
     """The text of a module of the project's specs/, or None."""
-    found = re.match(r'Rattle·(\w+?)(?:·specs)?\.specs\.([\w.]+)$', module)
+    found = re.match(r'Rattle\.(\w+)\.specs\.([\w.]+)$', module)
     file = ROOT / 'crates' / found[1] / 'specs' / (found[2].replace('.', '/') + '.antt') if found else None
     return file.read_text(encoding='utf-8') if file and file.is_file() else None
 

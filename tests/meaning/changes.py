@@ -13,13 +13,12 @@ Mutant = collections.namedtuple('Mutant', 'file line old new text kind')
 PAIRS = {'leb': 'ltb', 'ltb': 'leb', 'eqb': 'leb', 'true': 'false', 'false': 'true', 'take': 'drop', 'drop': 'take', 'any': 'all',
          'all': 'any'}
 SIGNS = {' && ': ' || ', ' || ': ' && ', ' + ': ' - ', ' - ': ' + ', ' / ': ' % ', ' % ': ' / '}
-HOME = {'leb': 'lib.Dec', 'ltb': 'lib.Dec', 'eqb': 'lib.Dec', 'true': 'mathlib.Core.Bool', 'false': 'mathlib.Core.Bool',
-        'not': 'mathlib.Core.Bool', '_&&_': 'mathlib.Core.Bool', '_||_': 'mathlib.Core.Bool', 'take': 'lib.ListN', 'drop': 'lib.ListN',
-        '_+_': 'Prim.Native.Nat', '_-_': 'Prim.Native.Nat', '_/_': 'Prim.Native.Nat', '_%_': 'Prim.Native.Nat'}
+PRELUDE = 'Rattle.std.specs.Prelude'
+HOME = dict.fromkeys(('leb', 'ltb', 'eqb', 'true', 'false', 'not', '◌&&◌', '◌||◌', 'take', 'drop', '◌+◌', '◌-◌', '◌/◌', '◌%◌'), PRELUDE)
 
-NAME = r"[^\W\d][\w'·-]*"
-NUMBER = re.compile(r"(?<![\w.·'-])(0x[0-9A-Fa-f]+|\d+)(?![\w.·'])")
-WORD = re.compile(r"(?<![\w.·'«-])(%s)(?![\w·'»-])" % NAME)
+NAME = r"[^\W\d][\w'-]*"
+NUMBER = re.compile(r"(?<![\w.'-])(0x[0-9A-Fa-f]+|\d+)(?![\w.'])")
+WORD = re.compile(r"(?<![\w.'«-])(%s)(?![\w'»-])" % NAME)
 SIGNATURE = re.compile(r'^(?:abbrev |unfoldable |opaque |pub )*(\S+) : (.*)$', re.S)
 KEYWORD = re.compile(r'^(use|pub use|pub mod|mod|pub record|record|pub data|data|infix[lr]?|ruleset|open)\b')
 
@@ -120,7 +119,7 @@ def neighbours(text, file_of):
         named = file_of(source)
         types = typed(named) if named is not None else {}
         for name in (name.strip() for name in names.split(',') if ' as ' not in name):
-            if source.endswith('the-variants') or name in types:
+            if source.endswith('.TheVariants') or name in types:
                 groups[at, types.get(name)].append(name)
     for data in re.finditer(r'^(?:pub )?data [^\n]* where\n((?:[ \t]+[^\n]*\n|\n)*)', masked(text), re.M):
         for name, kind in re.findall(r'^\s+(%s) : (.*?)\s*$' % NAME, data[1], re.M):
@@ -168,8 +167,8 @@ def exchanged(text, one, other):
     return Change(a, d, text[c:d] + text[b:c] + text[a:b], 'rows')
 
 
-def of_clause(text, bare, start, end, types, next_field, next_name):
-    """The changes of one clause."""
+def of_clause(text, bare, start, end, types, next_field, next_name, aliases):
+    """The changes of one clause; `aliases` are the file's names for modules."""
     right = equals(bare, start, end)
     if right is None:
         return
@@ -204,8 +203,9 @@ def of_clause(text, bare, start, end, types, next_field, next_name):
                 yield Change(at, right + found.end(), names[nearest], 'argument')
     for found in re.finditer(r' (?:&&|\|\||\+|-|/|%) ', body):
         yield Change(right + found.start(), right + found.end(), SIGNS[found[0]], 'sign')
-    for found in re.finditer(r' \.(%s)' % NAME, body):
-        if found[1] in next_field:
+    for found in re.finditer(r"(?<=[\w')])\.(%s)" % NAME, body):
+        first = re.search(r"(?<![\w.'])%s$" % NAME, body[:found.start()])
+        if found[1] in next_field and not (first and first[0] in aliases):
             yield Change(right + found.start(1), right + found.end(1), next_field[found[1]], 'field')
     for row in elements(bare, right, end):
         row = [trimmed(bare, *bounds) for bounds in row]
@@ -217,6 +217,7 @@ def of_clause(text, bare, start, end, types, next_field, next_name):
 def changes(text, next_field, file_of):
     """All changes of a file."""
     bare, types, last, next_name = masked(text), [], None, neighbours(text, file_of)
+    aliases = set(re.findall(r'^(?:pub )?use \S+ as (%s)$' % NAME, text, re.M))
     for start, end in blocks(bare):
         block = bare[start:end].rstrip()
         if KEYWORD.match(block):
@@ -229,7 +230,7 @@ def changes(text, next_field, file_of):
             continue
         if right is None:
             continue
-        yield from of_clause(text, bare, start, end, types, next_field, next_name)
+        yield from of_clause(text, bare, start, end, types, next_field, next_name, aliases)
         side = trimmed(bare, right, end)
         name = bare[start:right].split()[0]
         if last and last[0] == name and text[last[1][0]:last[1][1]] != text[side[0]:side[1]]:
@@ -279,6 +280,6 @@ def mutants(file, text, next_field, file_of):
         for word in re.findall(NAME, change.new):
             whole = imported(whole, word)
         sign = change.new.strip()
-        if '_%s_' % sign in HOME:
-            whole = imported(whole, '_%s_' % sign)
+        if '◌%s◌' % sign in HOME:
+            whole = imported(whole, '◌%s◌' % sign)
         yield Mutant(file, text.count('\n', 0, change.start) + 1, ' // '.join(old_lines), ' // '.join(new_lines), whole, change.kind)

@@ -6,8 +6,9 @@ from support.failing import Cases
 from support.proving import FOLLOWS
 
 FILE = """-- A sample. Definitions only.
-use mathlib.Core.Bool.{Bool, true, cond}
-use Rattle·length.specs.Refusals.{early, late, at}
+use Rattle.std.specs.Prelude.{Bool, true, cond}
+use Rattle.length.specs.Refusals.{early, late, at}
+use Rattle.length.specs.Other as other
 
 pub record Two : Type 0 where
   pub one : ℕ -- a field
@@ -28,11 +29,11 @@ inside n b m = cond (leb n m) true b
 
 abbrev pub table : State → List ℕ
 table open = 0x0F ∷ limit ∷ []
-table closed = two .one + 1 ∷ []
+table closed = two.one + 1 ∷ []
 table (held n) = n ∷ []
 
 abbrev pub answer : State → ℕ
-answer s = cond s early (pick open)
+answer s = cond s early (other.one open)
 """
 REFUSALS = 'abbrev pub early : ℕ\nearly = 1\n\nabbrev pub late : ℕ\nlate = 2\n\nabbrev pub at : ℕ → ℕ\nat n = n\n'
 
@@ -47,14 +48,14 @@ inside n b m = cond (leb n m) true b  =>  inside n b m = cond (leb n n) true b
 table open = 0x0F ∷ limit ∷ []  =>  table open = 0x10 ∷ limit ∷ []
 table open = 0x0F ∷ limit ∷ []  =>  table open = 0x0E ∷ limit ∷ []
 table open = 0x0F ∷ limit ∷ []  =>  table open = limit ∷ 0x0F ∷ []
-table closed = two .one + 1 ∷ []  =>  table closed = two .one + 2 ∷ []
-table closed = two .one + 1 ∷ []  =>  table closed = two .one + 0 ∷ []
-table closed = two .one + 1 ∷ []  =>  table closed = two .one - 1 ∷ []
-table closed = two .one + 1 ∷ []  =>  table closed = two .other + 1 ∷ []
-table open = 0x0F ∷ limit ∷ [] // table closed = two .one + 1 ∷ []  =>  table open = two .one + 1 ∷ [] // table closed = 0x0F ∷ limit ∷ []
-answer s = cond s early (pick open)  =>  answer s = cond (not s) early (pick open)
-answer s = cond s early (pick open)  =>  answer s = cond s late (pick open)
-answer s = cond s early (pick open)  =>  answer s = cond s early (pick closed)
+table closed = two.one + 1 ∷ []  =>  table closed = two.one + 2 ∷ []
+table closed = two.one + 1 ∷ []  =>  table closed = two.one + 0 ∷ []
+table closed = two.one + 1 ∷ []  =>  table closed = two.one - 1 ∷ []
+table closed = two.one + 1 ∷ []  =>  table closed = two.other + 1 ∷ []
+table open = 0x0F ∷ limit ∷ [] // table closed = two.one + 1 ∷ []  =>  table open = two.one + 1 ∷ [] // table closed = 0x0F ∷ limit ∷ []
+answer s = cond s early (other.one open)  =>  answer s = cond (not s) early (other.one open)
+answer s = cond s early (other.one open)  =>  answer s = cond s late (other.one open)
+answer s = cond s early (other.one open)  =>  answer s = cond s early (other.one closed)
 """
 
 CASCADE = "/w/x/proofs/Cases.antt:4:1: error: `cases`: `law` %s\n" % FOLLOWS
