@@ -38,7 +38,7 @@ from support.places import TOP
 
 LIST = 'tests/checks/pages-not-run.txt'
 HISTORY = 'docs/landings'                 # pages about what once was
-NOT_COPIED = '.git', 'target', '__pycache__'
+NOT_COPIED = '.git', 'target', '__pycache__', 'out'
 MARK = 'pages.py: this command ended with status'
 EMULATED = 'where programs are emulated'  # a reason that holds elsewhere than on x86-64
 PATIENCE = 600                            # seconds for a page
@@ -185,9 +185,8 @@ def copied(top, place):
     """A copy of the tree in which a page's commands run: what is proved stays so, and nothing that they write is the tree's."""
     shutil.copytree(top, place, symlinks=True, ignore=shutil.ignore_patterns(*NOT_COPIED))
     built = top / 'target'
-    for name in ('stamp', 'host'):  # not rlib, which is large: so nothing can be proved anew
-        if (built / name).is_dir():
-            shutil.copytree(built / name, place / 'target' / name, ignore=shutil.ignore_patterns('lock'))
+    if (built / 'host').is_dir():
+        shutil.copytree(built / 'host', place / 'target/host', ignore=shutil.ignore_patterns('lock'))
     if (built / 'bin').is_dir():
         (place / 'target').mkdir(exist_ok=True)
         (place / 'target/bin').symlink_to(built / 'bin')
@@ -302,7 +301,7 @@ class Check:
             if entry not in met and not names:
                 self.fail('%s: no page has this command: %s' % (LIST, entry))
         todo = [(page, commands) for page, commands in todo if commands]
-        if todo and (self.top / 'target/rlib').exists():
+        if todo and (self.top / 'target/bin').exists():
             subprocess.run([str(self.top / 'bin/build-host')], stdout=subprocess.DEVNULL)  # once for all pages
         with concurrent.futures.ThreadPoolExecutor(os.cpu_count()) as pool:
             for (page, commands), results in zip(todo, pool.map(lambda one: run(self.top, one[1]), todo)):

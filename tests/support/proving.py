@@ -1,9 +1,8 @@
-"""Asks the prover about a changed crate, in a copy of the project: the checkout is never edited. The proved libraries of target/ are
-copied, so that nothing is proved twice, and a check takes all that a change does not touch from an incremental folder."""
+"""Asks the prover about a changed crate, in a copy of the project: the checkout is never edited. rt builds the libraries there, over what
+checks of the same crates in other folders kept, so that nothing is proved twice, and a check takes all that a change does not touch from an
+incremental folder."""
 
-import os
 import pathlib
-import platform
 import re
 import shutil
 import subprocess
@@ -23,13 +22,10 @@ class Broken(Exception):
 
 def toolchain():
     """The folder of the toolchain."""
-    home = os.environ.get('RATTLE_HOME')
-    if not home:
-        rt = shutil.which('rt')
-        if not rt:
-            raise Broken('no rt is found')
-        home = pathlib.Path(rt).resolve().parents[1]
-    return pathlib.Path(home)
+    rt = shutil.which('rt')
+    if not rt:
+        raise Broken('no rt is found')
+    return pathlib.Path(rt).resolve().parents[1]
 
 
 def listed(root):
@@ -38,7 +34,7 @@ def listed(root):
     for line in (root / 'crates.txt').read_text(encoding='utf-8').splitlines():
         name, mark, needs = line.split('#')[0].partition(':')
         if mark:
-            found[name.strip()] = needs.split()
+            found[name.split()[0]] = needs.split()
     return found
 
 
@@ -60,30 +56,27 @@ def place_for_a_copy(prefix):
 
 
 def copied(root, copy, crates, above=()):
-    """Makes a copy of the crates and of what they depend on, with their proved libraries, and proves what is not proved yet. Of the crates
-    `above` only what they depend on is proved."""
+    """Makes a copy of the crates and of what they depend on, and builds the libraries that the check of one of them reads. Of the crates
+    `above` only what they depend on is built."""
     needs = listed(root)
     wanted = set().union(*(below(needs, crate) for crate in (*crates, *above)))
-    (copy / 'target').mkdir(parents=True, exist_ok=True)
-    shutil.copy(root / 'crates.txt', copy / 'crates.txt')
-    for name in needs:
+    copy.mkdir(parents=True, exist_ok=True)
+    # for rt, it is the top of a repository
+    (copy / '.git').mkdir(exist_ok=True)
+    lines = (root / 'crates.txt').read_text(encoding='utf-8').splitlines()
+    (copy / 'crates.txt').write_text(''.join(line + '\n' for line in lines if re.split('[ :]', line)[0] in wanted), encoding='utf-8')
+    for name in wanted:
         place = copy / 'crates' / name
-        shutil.rmtree(place, ignore_errors=True)
-        if name in wanted:
-            for part in ('src', 'specs', 'proofs'):
-                if (root / 'crates' / name / part).is_dir():
-                    shutil.copytree(root / 'crates' / name / part, place / part)
-            for kind, file in (('rlib', name + '.rlib'), ('stamp', name)):
-                source, goal = root / 'target' / kind / file, copy / 'target' / kind / file
-                goal.parent.mkdir(parents=True, exist_ok=True)
-                if source.is_dir() and not goal.exists():
-                    shutil.copytree(source, goal)
-                elif source.is_file() and not goal.exists():
-                    shutil.copy(source, goal)
-    proved = sorted(wanted - set(above) if above else crates)
-    said = subprocess.run(['rt', 'check'] + proved, cwd=copy, capture_output=True, text=True) if proved else None
-    if said and said.returncode:
-        raise Broken('the crates are not proved as they are: rt check %s\n%s' % (' '.join(proved), (said.stdout + said.stderr)[-3000:]))
+        for part in ('src', 'specs', 'proofs'):
+            shutil.rmtree(place / part, ignore_errors=True)
+            if (root / 'crates' / name / part).is_dir():
+                shutil.copytree(root / 'crates' / name / part, place / part)
+    for name in [name for name in needs if name in wanted - set(above)]:
+        place = copy / 'crates' / name
+        if (place / 'src/lib.rt').exists():
+            said = subprocess.run(['rt', 'lib'], cwd=place, capture_output=True, text=True)
+            if said.returncode:
+                raise Broken('%s is not proved as it is: rt lib\n%s' % (name, (said.stdout + said.stderr)[-3000:]))
 
 
 class Prover:
@@ -100,28 +93,28 @@ class Prover:
     def fresh(self):
         """Puts the crate as it is into the folder `place`."""
         shutil.rmtree(self.place, ignore_errors=True)
-        shutil.copytree(self.copy / 'crates' / self.crate, self.place)
+        shutil.copytree(self.copy / 'crates' / self.crate, self.place, ignore=shutil.ignore_patterns('out'))
 
     def words(self, name, folder, other=None):
         """What every command on a crate takes; `other` is a folder with another library of this crate."""
-        home = toolchain()
-        own = home / 'on' / platform.machine()
+        kit = toolchain()
         file = next(folder / 'src' / file for file in ('main.rt', 'lib.rt') if (folder / 'src' / file).exists())
-        words = ['--crate-name', name, str(file), '--extern', 'std=%s' % (own / 'rlib/std.rlib')]
+        words = ['--crate-name', name, str(file), '--links', name + '=', '--extern', 'std=%s' % (kit / 'rlibs/std.rlib')]
         for need in self.needs[name]:
-            place = self.copy / 'target/rlib' if need in self.needs else own / 'rlib'
+            place = self.copy / 'crates' / need / 'out/rlib' if need in self.needs else kit / 'rlibs'
             if other and need == self.crate:
                 place = other
             words += ['--extern', '%s=%s' % (need, place / (need + '.rlib'))]
-        for place in ([other] if other else []) + [self.copy / 'target/rlib', own / 'rlib']:
+        own = [self.copy / 'crates' / need / 'out/rlib' for need in sorted(below(self.needs, name) - {name})]
+        for place in ([other] if other else []) + own + [kit / 'rlibs']:
             words += ['-L', 'dependency=%s' % place]
-        return words + ['--antt-project', str(home / 'logic/antt-project.json'), '--logic-built', str(own / 'logic-built')]
+        return words + ['--antt-project', str(kit / 'rattle/logic/antt-project.json'), '--logic-built', str(kit / 'logic_built')]
 
     def asked(self, verb, words):
         """The prover's status, and what it says."""
         try:
-            said = subprocess.run([str(toolchain() / 'on' / platform.machine() / 'bin/rattle'), verb] + words, stdout=subprocess.PIPE,
-                                  stderr=subprocess.STDOUT, text=True, timeout=LONGEST)
+            said = subprocess.run([str(toolchain() / 'bin/rattle'), verb] + words, stdout=subprocess.PIPE, stderr=subprocess.STDOUT,
+                                  text=True, errors='replace', timeout=LONGEST)
         except subprocess.TimeoutExpired:
             return 3, 'rattle: no verdict: it took more than %d s' % LONGEST
         return said.returncode, said.stdout
