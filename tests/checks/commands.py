@@ -89,8 +89,8 @@ def of_prove(test, directory):
     ends('help', 0, '[\n%s,\n]\n' % usage, './receive --help')
     ends('an argument that is none', 2, '[\n,\n%s]\n' % usage, './receive TRACE')
     for name in ('explain', 'replay'):
-        test.ends('%s taken' % name, 0, '', ['sh', '-c', 'mkdir -p crates/%s/out && echo program >crates/%s/out/%s && bin/prove --take "$(bin/sum %s)" %s'
-                                             % (name, name, name, name, name)], cwd=directory, env=environment)
+        take = 'mkdir -p crates/{0}/out && echo program >crates/{0}/out/{0} && bin/prove --take "$(bin/sum {0})" {0}'.format(name)
+        test.ends('%s taken' % name, 0, '', ['sh', '-c', take], cwd=directory, env=environment)
     ends('a packet as arguments', 0, '[\nexplain ran\nrepaired 06 00\n,\n]\n', './explain repaired 06 00')
     ends('a trace and numbers', 0, '[\nreplay %s/trace 2 0x5 ran\n,\n]\n' % directory, './replay trace 2 0x5')
     ends('no trace', 2, 'usage: ./replay TRACE NUMBER..', './replay')

@@ -3,8 +3,8 @@
 # self-test: beside
 # says: a must-fail edit is refused, but not for what its name says, or its twin is missing
 # counts: edits read
-"""What each must-fail edit is refused for, by the line that `rt ci` or `rt must-fail` writes of it (target/rt-ci.log). An edit must change an
-answer and keep the shape. So its first error is no missing name or field, nothing that does not parse, and stands in no definition. If
+"""What each must-fail edit is refused for, by the line that `rt ci` or `rt must-fail` writes of it (target/rt-ci.log). An edit must change
+an answer and keep the shape. So its first error is no missing name or field, nothing that does not parse, and stands in no definition. If
 it stands in a proof, and not in a case or claim, perhaps any other text there would be refused: then the edit has a twin,
 CRATE/twins/NAME.twin, which has the form of an edit, changes the same place and means the same. edits-without-twin.txt lists the
 edits that have none, each with the reason; a line that is not needed any more must go. As long as a line says that no twin is written

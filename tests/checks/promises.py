@@ -3,8 +3,8 @@
 # self-test: beside
 # says: a public call's promise is cited by no theorem, or docs/PROMISES-CITED.md is stale
 # counts: checks of documents
-"""For each public call the promise that its contract cites, the field of `demands` (CallContracts) that ties the contract to it, and the
-theorems that cite that very promise: the same name of the same file. --write writes the table docs/PROMISES-CITED.md. A call without a tie or
+"""For each public call the promise that its contract cites, the field of `demands` (CallContracts) that ties the contract to it, and
+the theorems that cite that very promise: the same name of the same file. --write writes the table docs/PROMISES-CITED.md. A call without a tie or
 without a theorem is a failure, unless promises-without.txt names it with a reason. The theorems are the fields of `Claims` of `demands`,
 those of the records that these fields are, and so on. Nothing is proved here: the files are read as texts."""
 

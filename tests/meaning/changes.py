@@ -14,7 +14,7 @@ PAIRS = {'leb': 'ltb', 'ltb': 'leb', 'eqb': 'leb', 'true': 'false', 'false': 'tr
          'all': 'any'}
 SIGNS = {' && ': ' || ', ' || ': ' && ', ' + ': ' - ', ' - ': ' + ', ' / ': ' % ', ' % ': ' / '}
 PRELUDE = 'Rattle.std.specs.Prelude'
-HOME = dict.fromkeys(('leb', 'ltb', 'eqb', 'true', 'false', 'not', '◌&&◌', '◌||◌', 'take', 'drop', '◌+◌', '◌-◌', '◌/◌', '◌%◌'), PRELUDE)
+HOME = dict.fromkeys('leb ltb eqb true false not ◌&&◌ ◌||◌ take drop ◌+◌ ◌-◌ ◌/◌ ◌%◌'.split(), PRELUDE)
 
 NAME = r"[^\W\d][\w'-]*"
 NUMBER = re.compile(r"(?<![\w.'-])(0x[0-9A-Fa-f]+|\d+)(?![\w.'])")

@@ -1,7 +1,7 @@
 """A program of this repository, built with a place in the source for each instruction, though its function be inlined.
 
-The program is built anew and without proof from what the toolchain's compiler is given, with its options: the same code as the
-program that `rt check` links, with debug information that names the functions. For x86-64, on x86-64."""
+The program is built anew from what the toolchain's compiler is given, with its options: the same code as the program that `rt run` links,
+with debug information that names the functions. For x86-64, on x86-64."""
 
 import re
 import subprocess
@@ -9,27 +9,11 @@ import sys
 
 from support.c_tools import missing, native, toolchain as kit
 from support.places import TOP
+from support.proving import listed, words
 
 TARGET = 'x86_64-unknown-linux-gnu'
 # for a processor without vectors; gcc and clang take the same words
 WITHOUT_VECTORS = ('-mno-sse', '-mno-sse2', '-mno-mmx')
-
-
-def crates_in(path):
-    """Each crate of a list of crates, with those that it names."""
-    return {name: rest.split() for name, rest in re.findall(r'^(\w+):[ \t]*(.*)$', path.read_text(), re.M)}
-
-
-def libraries(crate):
-    """What the crate reaches: the name and the first file of each library."""
-    ours, theirs = crates_in(TOP / 'crates.txt'), crates_in(kit() / 'libs' / 'libs.txt')
-    found, ahead = ['std'], list(ours[crate])
-    while ahead:
-        name = ahead.pop()
-        if name not in found:
-            found.append(name)
-            ahead += ours[name] if name in ours else theirs.get(name, [])
-    return {name: (TOP / 'crates' if name in ours else kit() / 'libs') / name / 'src' / 'lib.rt' for name in found}
 
 
 def watching_compiler(tools, room):
@@ -80,13 +64,14 @@ def built(crate, room, more=()):
     """The path of the program, compiled with these options more."""
     if not native():
         missing('functions are counted on x86-64 alone')
-    own = kit() / 'on' / 'x86_64'
-    tools, program = own / 'toolchain', room / crate
-    words = [str(own / 'bin' / 'rattle-cases'), '--toolchain', str(watching_compiler(tools, room)),
-             str(TOP / 'crates' / crate / 'src' / 'main.rt'), '--crate-name', crate]
-    for name, path in libraries(crate).items():
-        words += ['--lib', '%s=%s' % (name, path)]
-    said = subprocess.run(words, stdin=subprocess.DEVNULL, stdout=subprocess.PIPE, stderr=subprocess.STDOUT, cwd=str(room))
+    tools, program, folder = kit() / 'toolchain', room / crate, TOP / 'crates' / crate
+    # the libraries below, and what a check of the program keeps
+    proved = subprocess.run(['rt', 'run'], stdin=subprocess.DEVNULL, stdout=subprocess.DEVNULL, stderr=subprocess.PIPE, cwd=str(folder))
+    if not (folder / 'out' / (crate + '.stamp')).exists():
+        sys.exit('%s is not proved: %s' % (crate, proved.stderr.decode()[-3000:]))
+    said = subprocess.run([str(kit() / 'bin' / 'rattle'), 'build', *words(TOP, listed(TOP), crate, folder), '--toolchain',
+                           str(watching_compiler(tools, room)), '--incremental', str(folder / 'out' / 'incremental'), '--backend', 'llvm',
+                           '-o', str(room / 'first.o')], stdin=subprocess.DEVNULL, stdout=subprocess.PIPE, stderr=subprocess.STDOUT)
     if not (room / 'module.bc').exists():
         sys.exit('%s does not compile: %s' % (crate, said.stdout.decode()))
     clang = str(tools / 'bin' / 'clang')
@@ -96,8 +81,7 @@ def built(crate, room, more=()):
                     '-o', str(room / 'module.ll')], check=True)
     (room / 'placed.ll').write_text(placed((room / 'module.ll').read_text()))
     subprocess.run([clang, *options, *more, '-c', str(room / 'placed.ll'), '-o', str(room / 'module.o')], check=True)
-    linked = [str(own / 'bin' / 'rattle-link'), '--target', TARGET, '--toolchain', str(tools), '-o', str(program), str(room / 'module.o')]
-    if 'os' in libraries(crate):
-        linked.append(str(kit() / 'lib' / 'libos_c.a'))
+    linked = [str(kit() / 'bin' / 'rattle-link'), '--target', TARGET, '--toolchain', str(tools), '-o', str(program), str(room / 'module.o'),
+              str(kit() / 'c' / 'libos_c.a'), str(kit() / 'c' / 'liblibc_c.a')]
     subprocess.run(linked, check=True, stdout=subprocess.DEVNULL, stderr=subprocess.DEVNULL)
     return str(program.resolve())

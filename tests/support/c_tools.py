@@ -1,6 +1,5 @@
 """The tools for C programs over the library, as bin/c-tools chooses them; ends with status 4 if one or the toolchain is missing."""
 
-import os
 import pathlib
 import shlex
 import shutil
@@ -31,10 +30,10 @@ def tools(*names):
 
 def toolchain():
     """The toolchain's folder."""
-    home, found = os.environ.get('RATTLE_HOME'), shutil.which('rt')
-    if not home and not found:
+    found = shutil.which('rt')
+    if not found:
         missing('no Rattle toolchain is here: rt is not in PATH')
-    return pathlib.Path(home or pathlib.Path(found).resolve().parent.parent)
+    return pathlib.Path(found).resolve().parent.parent
 
 
 def native():

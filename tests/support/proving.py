@@ -79,6 +79,21 @@ def copied(root, copy, crates, above=()):
                 raise Broken('%s is not proved as it is: rt lib\n%s' % (name, (said.stdout + said.stderr)[-3000:]))
 
 
+def words(top, needs, name, folder, others=()):
+    """What every command of the toolchain on a crate takes that lies in this folder, over the libraries in crates/*/out of the folder `top`;
+    `others` has another folder for some of them."""
+    kit = toolchain()
+    file = next(folder / 'src' / file for file in ('main.rt', 'lib.rt') if (folder / 'src' / file).exists())
+    places = {need: top / 'crates' / need / 'out/rlib' for need in below(needs, name) - {name}}
+    places.update(others)
+    found = ['--crate-name', name, str(file), '--links', name + '=', '--extern', 'std=%s' % (kit / 'rlibs/std.rlib')]
+    for need in needs[name]:
+        found += ['--extern', '%s=%s' % (need, places.get(need, kit / 'rlibs') / (need + '.rlib'))]
+    for place in [places[need] for need in sorted(places)] + [kit / 'rlibs']:
+        found += ['-L', 'dependency=%s' % place]
+    return found + ['--antt-project', str(kit / 'rattle/logic/antt-project.json'), '--logic-built', str(kit / 'logic_built')]
+
+
 class Prover:
     """Checks one crate of a copy, changed in the folder `place`, and others over its changed library."""
 
@@ -96,19 +111,8 @@ class Prover:
         shutil.copytree(self.copy / 'crates' / self.crate, self.place, ignore=shutil.ignore_patterns('out'))
 
     def words(self, name, folder, other=None):
-        """What every command on a crate takes; `other` is a folder with another library of this crate."""
-        kit = toolchain()
-        file = next(folder / 'src' / file for file in ('main.rt', 'lib.rt') if (folder / 'src' / file).exists())
-        words = ['--crate-name', name, str(file), '--links', name + '=', '--extern', 'std=%s' % (kit / 'rlibs/std.rlib')]
-        for need in self.needs[name]:
-            place = self.copy / 'crates' / need / 'out/rlib' if need in self.needs else kit / 'rlibs'
-            if other and need == self.crate:
-                place = other
-            words += ['--extern', '%s=%s' % (need, place / (need + '.rlib'))]
-        own = [self.copy / 'crates' / need / 'out/rlib' for need in sorted(below(self.needs, name) - {name})]
-        for place in ([other] if other else []) + own + [kit / 'rlibs']:
-            words += ['-L', 'dependency=%s' % place]
-        return words + ['--antt-project', str(kit / 'rattle/logic/antt-project.json'), '--logic-built', str(kit / 'logic_built')]
+        """What every command on a crate takes; `other` is a folder with another library of the changed crate."""
+        return words(self.copy, self.needs, name, folder, {self.crate: other} if other else {})
 
     def asked(self, verb, words):
         """The prover's status, and what it says."""
