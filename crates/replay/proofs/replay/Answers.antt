@@ -2,7 +2,7 @@
 use Rattle.session_held.proofs.Laws.{session-in-ranges}
 use Rattle.replay.proofs.replay.Goals as goal
 
-pub play-told-requires : goal.play-told-requires
-play-told-requires c =
+pub play-requires : goal.play-requires
+play-requires c =
     let fresh = c.fresh-session.ensures in
     session-in-ranges _ fresh.ranges fresh.sized

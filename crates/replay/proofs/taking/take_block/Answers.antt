@@ -10,7 +10,7 @@ loop-at-init c = goes-start c.requires
 pub overflow_add-feed : goal.overflow_add-feed
 overflow_add-feed c =
     let inside = feed-inside c.args.block.now c.loop-at-test.true c.find_feed-stop.ensures in
-    record { fits = omega (arith, c.well-formed.1.1.1.1.1.1.0, inside) }
+    record { fits = omega (arith, c.well_formed.1.1.1.1.1.1.1.0, inside) }
 
 pub keep_line-kept-requires : goal.keep_line-kept-requires
 keep_line-kept-requires c = c.loop-at.invariant.ready.line
@@ -28,7 +28,7 @@ pub take_line-next-requires : goal.take_line-next-requires
 take_line-next-requires c = c.loop-at.invariant.ready
 
 pub overflow_add-at : goal.overflow_add-at
-overflow_add-at c = record { fits = omega (arith, c.well-formed.1.1.1.1.1.1.0, c.if-block-feed.false) }
+overflow_add-at c = record { fits = omega (arith, c.well_formed.1.1.1.1.1.1.1.0, c.if-block-feed.false) }
 
 pub shape_of-line-then-not-next : goal.shape_of-line-then-not-next
 shape_of-line-then-not-next c = sym c.take_line-next.ensures.ready.line.size ∙ c.requires.line.size
