@@ -16,7 +16,7 @@ use Rattle.solve_code.specs.Promise.{Solving}
 use Rattle.solve_code.specs.declared.Solved.{Solved}
 use Rattle.solve_code.specs.declared.Solved.TheVariants as solved
 use Rattle.session_calls.specs.Receiver.{After}
-use Rattle.session_calls.proofs.Laws.{solve-outside, solve-inside, after_same, one_answer}
+use Rattle.session_calls.proofs.Laws.{solve-outside, solve-inside, after_same, one_answer_lem}
 use Rattle.host_answers.specs.Answers.{told}
 use Rattle.host_answers.proofs.Laws.{told-mapped}
 use Rattle.host.specs.Receiver.{session_in, RangesHosted}
@@ -66,7 +66,7 @@ one-solved =
       solve =
           λ {h} {table} {octets} {messages} a b.
           let s = session_in h table octets messages in
-          let same = one_answer s a.wanted b.wanted a.means b.means in
+          let same = one_answer_lem s a.wanted b.wanted a.means b.means in
           let one = same_memory h h (after_same b.wanted s (subst (λ (x : Answer View). After x s _) same a.state) b.state) in
           (a.answer ∙ ap told same ∙ sym b.answer, one.1, one.2);
     }
