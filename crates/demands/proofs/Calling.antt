@@ -40,7 +40,7 @@ use Rattle.session_calls.specs.Solver.{SolvesAs, SolveOwes}
 use Rattle.session_calls.specs.declared.receiver.AfterOffer.{AfterOffer}
 use Rattle.session_calls.specs.declared.receiver.AfterRelease.{AfterRelease}
 use Rattle.session_calls.specs.declared.solver.AfterSolve.{AfterSolve}
-use Rattle.session_calls.proofs.Laws.{solves-as, one_answer}
+use Rattle.session_calls.proofs.Laws.{solves-as, one_answer_lem}
 use Rattle.demands.specs.Common.History as moves
 use Rattle.demands.specs.Common.History.{after_move}
 use Rattle.demands.specs.Common.Calls.{Call, offer, release, solve, Calls, handed_out, left_in}
@@ -122,7 +122,7 @@ module _ {view : View} {s : Session} (seen : SeenAs view s) where
   -- what the equations mean, the function computes
   pub solve-is : (a : Answer View) → SolvesAs s a → a ≡ solutions.solve view
   solve-is a means =
-      one_answer s a (in_ranges_then solutions.solve s) means (solves-as s) ∙ in-ranges-then solutions.solve seen
+      one_answer_lem s a (in_ranges_then solutions.solve s) means (solves-as s) ∙ in-ranges-then solutions.solve seen
 
   -- the session after it
   after-offer : (a : Answer View) (t : Session) → After a s t → SeenAs (afterwards a view) t
