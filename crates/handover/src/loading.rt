@@ -1,13 +1,18 @@
 // The session to begin with: a fresh one, or that of an image.
+ghost use Rattle.std.specs.Prelude.{◌≤◌, length};
 ghost use Rattle.session_held.specs.Table.{lent_by};
 ghost use Rattle.session_held.specs.Laid.{InRanges};
 ghost use Rattle.handover.specs.Promise.{BeginsWith};
 
 use crate::arguments::NONE;
 use crate::telling::{say_failed, say_long, say_refused};
+use crate::{PATH_MAX, name_of};
 use image::{Image, Restore};
-use libc::PATH_MAX;
 use session_held::Session;
+use std::fs::File;
+use std::io;
+use std::io::Read;
+use std::rt::Env;
 
 // What is read of a file: one character more than the longest image, just enough to know that a text is too long.
 const TEXT: usize = Image::LIMIT + 1;
@@ -27,7 +32,7 @@ fn fresh(well: bool) -> Begun
 }
 
 // The session that a text is an image of; a fresh one if the text is no image.
-fn restored(path: &[u8], text: &[u8]) -> Begun
+fn restored(rt: &HostRuntime, path: &[u8], text: &[u8]) -> Begun
     ensures { BeginsWith text.now result }
 {
     let found = image_reader::read(text);
@@ -39,7 +44,7 @@ fn restored(path: &[u8], text: &[u8]) -> Begun
             well: true,
         },
         Restore::Refused(why) => {
-            say_refused(path, why);
+            say_refused(rt, path, why);
             Begun {
                 session,
                 well: false,
@@ -48,21 +53,42 @@ fn restored(path: &[u8], text: &[u8]) -> Begun
     }
 }
 
-// The session of the image in a file; `text` has room for the image.
-fn load(path: &[u8], text: &mut [u8]) -> Begun
-    ensures { InRanges (lent_by result.session) }
+// Reads to the front of `text` until it is full, the input ends or a read fails, and returns how many octets it has.
+fn read_full<R: Read>(file: &mut R, text: &mut [u8]) -> usize
+    ensures { result ≤ length text.new }
 {
-    let file = os::open_read(path);
-    if file < 0 {
-        say_failed(path, b"cannot be opened");
-        return fresh(false);
+    let mut size = 0;
+    while size < text.len() {
+        let n = file.read(&mut text[size..]).unwrap_or(0);
+        if n == 0 {
+            return size;
+        }
+        size += n;
     }
-    let size = io::read_full(file, text);
-    libc::close(file);
-    restored(path, &text[..size])
+    size
 }
 
-pub fn begin(at: usize) -> Begun
+fn open(rt: &HostRuntime, path: &[u8]) -> io::Result<File> {
+    File::open(rt, name_of(path)?)
+}
+
+// The session of the image in a file; `text` has room for the image.
+fn load(rt: &HostRuntime, path: &[u8], text: &mut [u8]) -> Begun
+    ensures { InRanges (lent_by result.session) }
+{
+    match open(rt, path) {
+        Err(why) => {
+            say_failed(rt, path, b"cannot be opened", why);
+            fresh(false)
+        }
+        Ok(mut file) => {
+            let size = read_full(&mut file, text);
+            restored(rt, path, &text[..size])
+        }
+    }
+}
+
+pub fn begin(rt: &HostRuntime, at: usize) -> Begun
     ensures { InRanges (lent_by result.session) }
 {
     if at == NONE {
@@ -70,10 +96,11 @@ pub fn begin(at: usize) -> Begun
     }
     let mut path = [0u8; PATH_MAX];
     let mut text = [0u8; TEXT];
-    let size = os::arg(at, &mut path);
-    if os::errno() != 0 {
-        say_long();
-        return fresh(false);
+    match rt.arg(at, &mut path) {
+        Err(_) => {
+            say_long(rt);
+            fresh(false)
+        }
+        Ok(size) => load(rt, &path[..size], &mut text),
     }
-    load(&path[..size], &mut text)
 }

@@ -16,7 +16,7 @@ pub struct Played {
     pub image: Written,
 }
 
-pub fn play(session: Session, out: &mut [u8]) -> Played
+pub fn play(rt: &HostRuntime, session: Session, out: &mut [u8]) -> Played
     requires { InRanges (lent_by session) }
     ensures { RunsFrom (view_of session) out.old out.new result }
 {
@@ -25,7 +25,15 @@ pub fn play(session: Session, out: &mut [u8]) -> Played
     let mut table = session.table;
     let mut octets = session.octets;
     let mut messages = session.messages;
-    let served = program_loop::serve(base, counts, &mut table, &mut octets, &mut messages);
+    let served = program_loop::serve(
+        &mut rt.stdin(),
+        &mut rt.stdout(),
+        base,
+        counts,
+        &mut table,
+        &mut octets,
+        &mut messages,
+    );
     let last_base = served.base;
     let last_counts = served.counts;
     let last = Session {

@@ -5,18 +5,22 @@ ghost use Rattle.session_held.specs.Laid.{InRanges};
 
 use crate::playing::{Played, play};
 use crate::telling::{say_failed, say_unwritten};
+use crate::{PATH_MAX, name_of};
 use image::Image;
 use length::Written;
-use libc::PATH_MAX;
 use session_held::Session;
+use std::fs::{File, OpenOptions};
+use std::io::{Error, ErrorKind, Write};
+use std::{fs, io};
 
 // The longest name to which a suffix can be added.
 const LONGEST: usize = PATH_MAX - 4;
 
-// Makes the name of the file beside one whose name has `size` characters, and returns its length. A name that is too long is left
-// unchanged.
+// Makes the name of the file beside one whose name has `size` characters, and returns its length. A name that is too long is filled up,
+// and no file can have it.
 pub fn name_beside(path: &mut [u8; PATH_MAX], size: usize) -> usize {
     if LONGEST < size {
+        path[size.min(PATH_MAX)..].fill(b'.');
         return PATH_MAX;
     }
     path[size] = b'.';
@@ -35,66 +39,88 @@ fn front(octets: &[u8], size: usize) -> &[u8] {
     &octets[..0]
 }
 
-// Whether a file can be replaced: there is none of that name, or it can be written and is on a disk. A device or a pipe cannot be synced to
-// a disk, and is not replaced (rule 20.29).
-fn replaceable(path: &[u8]) -> bool {
-    let file = os::open_update(path);
-    if file < 0 {
-        return os::errno() == libc::ENOENT;
+// Fails if a file cannot be replaced: there is none of that name, or it can be written and is on a disk. A device or a pipe cannot be
+// synced to a disk, and is not replaced (rule 20.29).
+fn replaceable(rt: &HostRuntime, path: &str) -> io::Result<()> {
+    match OpenOptions::new().read(true).write(true).open(rt, path) {
+        Ok(file) => file.sync_all(),
+        Err(why) => {
+            if why.kind() == ErrorKind::NotFound {
+                return Ok(());
+            }
+            Err(why)
+        }
     }
-    let on_disk = libc::fsync(file) == 0;
-    libc::close(file);
-    on_disk
 }
 
-// Creates the file beside it, and returns its descriptor, or less than 0 if the file cannot be written.
-fn open_beside(path: &[u8], beside: &[u8]) -> i32 {
-    if !replaceable(path) {
-        return -1;
-    }
-    os::open_overwrite(beside)
+// Creates the file beside it, unless the file cannot be written.
+fn open_beside(rt: &HostRuntime, path: &[u8], beside: &[u8]) -> io::Result<File> {
+    replaceable(rt, name_of(path)?)?;
+    File::create(rt, name_of(beside)?)
 }
 
-// Writes a text to the file, and returns whether all of it is on the disk.
-fn put(file: i32, text: &[u8]) -> bool {
-    if !io::write_all(file, text) {
-        return false;
-    }
-    libc::fsync(file) == 0
+// Writes a text to the file, and fails if not all of it is on the disk.
+fn put(file: &mut File, text: &[u8]) -> io::Result<()> {
+    file.write_all(text)?;
+    file.sync_all()
 }
 
 // Writes the image of a run to the file. Its writer never refuses: the session is within its ranges, and there is room for any image.
-fn put_image(file: i32, played: Played, image: &[u8]) -> bool {
+fn put_image(file: &mut File, played: Played, image: &[u8]) -> io::Result<()> {
     let written = played.image;
     match written {
         Written::Octets(size) => put(file, front(image, size)),
-        Written::Refused(_) => false,
+        Written::Refused(_) => Err(Error::from(ErrorKind::InvalidData)),
+    }
+}
+
+// Writes the image of a run to the file beside, and gives that the name of the file.
+fn replace(
+    rt: &HostRuntime,
+    mut file: File,
+    played: Played,
+    image: &[u8],
+    path: &[u8],
+    beside: &[u8],
+) -> io::Result<()> {
+    put_image(&mut file, played, image)?;
+    drop(file);
+    fs::rename(rt, name_of(beside)?, name_of(path)?)
+}
+
+// Removes the file beside.
+fn remove(rt: &HostRuntime, beside: &[u8]) {
+    if let Ok(name) = name_of(beside) {
+        let _ = fs::remove_file(rt, name);
     }
 }
 
 // Runs from a session on, and saves the image at the end in the file at `path`, by way of the file beside it, whose name has `size`
 // characters.
-pub fn play_and_save(session: Session, path: &[u8], name: &[u8; PATH_MAX], size: usize)
+pub fn play_and_save(
+    rt: &HostRuntime,
+    session: Session,
+    path: &[u8],
+    name: &[u8; PATH_MAX],
+    size: usize,
+)
     requires { InRanges (lent_by session) }
 {
     let beside = front(name, size);
     let mut image = [0u8; Image::LIMIT];
-    let file = open_beside(path, beside);
-    if file < 0 {
-        return say_failed(path, b"cannot be written");
-    }
-    let played = play(session, &mut image);
-    if !played.whole {
-        say_unwritten();
-        os::unlink(beside);
-        return;
-    }
-    if put_image(file, played, &image) {
-        libc::close(file);
-        if os::rename(beside, path) == 0 {
-            return;
+    match open_beside(rt, path, beside) {
+        Err(why) => say_failed(rt, path, b"cannot be written", why),
+        Ok(file) => {
+            let played = play(rt, session, &mut image);
+            if !played.whole {
+                say_unwritten(rt);
+                remove(rt, beside);
+                return;
+            }
+            if let Err(why) = replace(rt, file, played, &image, path, beside) {
+                say_failed(rt, path, b"cannot be written", why);
+                remove(rt, beside);
+            }
         }
     }
-    say_failed(path, b"cannot be written");
-    os::unlink(beside);
 }

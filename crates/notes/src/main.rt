@@ -12,15 +12,22 @@ use line::Line;
 use program_input::{BLOCK, read_line};
 use saved::SAVED;
 use session_calls::{Offered, Released, Session};
+use std::io::{Read, Write};
 use text::{part, say_refused};
 
 // Writes what a release returned, and returns whether a number left. A refusal is written only with leave to skip, as in `receive` (rules
 // 18.3 and 18.4).
-fn told(answer: Released, skip: bool, line: usize, table: &mut [u32; SAVED]) -> bool {
+fn told<W: Write>(
+    output: &mut W,
+    answer: Released,
+    skip: bool,
+    line: usize,
+    table: &mut [u32; SAVED],
+) -> bool {
     match answer {
         Released::Refused(why) => {
             if skip {
-                say_refused(line, why);
+                say_refused(output, line, why);
             }
             false
         }
@@ -30,7 +37,7 @@ fn told(answer: Released, skip: bool, line: usize, table: &mut [u32; SAVED]) -> 
             note,
             size: _,
         } => {
-            saved::told(kind, number, note, table);
+            saved::told(output, kind, number, note, table);
             true
         }
     }
@@ -43,11 +50,17 @@ struct Turn {
     more: bool,
 }
 
-fn release(session: Session, skip: bool, line: usize, table: &mut [u32; SAVED]) -> Turn {
+fn release<W: Write>(
+    output: &mut W,
+    session: Session,
+    skip: bool,
+    line: usize,
+    table: &mut [u32; SAVED],
+) -> Turn {
     let mut packet = [0u8; Packet::LIMIT];
     let after = session_calls::release(session, skip, &mut packet);
     let answer = after.answer;
-    let more = told(answer, skip, line, table);
+    let more = told(output, answer, skip, line, table);
     let held = after.session;
     Turn {
         session: held,
@@ -56,12 +69,17 @@ fn release(session: Session, skip: bool, line: usize, table: &mut [u32; SAVED]) 
 }
 
 // All releases after a line (rule 18.1): after as many as there are numbers from the base on, the base is unknown.
-fn releases(session: Session, line: usize, table: &mut [u32; SAVED]) -> Session {
+fn releases<W: Write>(
+    output: &mut W,
+    session: Session,
+    line: usize,
+    table: &mut [u32; SAVED],
+) -> Session {
     let mut held = session;
     let mut left: usize = Session::HEARD;
     while left > 0 {
         left -= 1;
-        let turn = release(held, false, line, table);
+        let turn = release(output, held, false, line, table);
         let next = turn.session;
         held = next;
         if !turn.more {
@@ -72,47 +90,56 @@ fn releases(session: Session, line: usize, table: &mut [u32; SAVED]) -> Session 
 }
 
 // Offers a datagram.
-fn offer(session: Session, octets: &[u8], line: usize) -> Session {
+fn offer<W: Write>(output: &mut W, session: Session, octets: &[u8], line: usize) -> Session {
     let after = session_calls::offer(session, octets);
     let answer = after.answer;
     if let Offered::Refused(why) = answer {
-        say_refused(line, why);
+        say_refused(output, line, why);
     }
     let held = after.session;
     held
 }
 
 // An empty line is one release with leave to skip (rule 18.2); any other line is a datagram in hexadecimal.
-fn answer(session: Session, digits: &[u8], line: usize, table: &mut [u32; SAVED]) -> Session {
+fn answer<W: Write>(
+    output: &mut W,
+    session: Session,
+    digits: &[u8],
+    line: usize,
+    table: &mut [u32; SAVED],
+) -> Session {
     if digits.len() == 0 {
-        let turn = release(session, true, line, table);
+        let turn = release(output, session, true, line, table);
         let held = turn.session;
         return held;
     }
     let mut octets = [0u8; Datagram::LIMIT];
     match line_hex::hex_to_octets(digits, &mut octets) {
         Written::Refused(why) => {
-            say_refused(line, why);
+            say_refused(output, line, why);
             session
         }
-        Written::Octets(count) => offer(session, part(&octets, 0, count), line),
+        Written::Octets(count) => offer(output, session, part(&octets, 0, count), line),
     }
 }
 
 // Answers a line of `size` characters, and does the releases after it.
-fn answered(
+fn answered<W: Write>(
+    output: &mut W,
     session: Session,
     digits: &[u8; Line::KEPT],
     size: usize,
     line: usize,
     table: &mut [u32; SAVED],
 ) -> Session {
-    let held = answer(session, part(digits, 0, size), line, table);
-    releases(held, line, table)
+    let held = answer(output, session, part(digits, 0, size), line, table);
+    releases(output, held, line, table)
 }
 
 // Answers one line of the input. A last line without a line feed counts unless it is empty (rule 18.8).
-fn take_line(
+fn take_line<R: Read, W: Write>(
+    input: &mut R,
+    output: &mut W,
     session: Session,
     block: &mut [u8; BLOCK],
     at: &mut usize,
@@ -121,14 +148,16 @@ fn take_line(
     line: usize,
     table: &mut [u32; SAVED],
 ) -> Session {
-    let size = read_line(block, at, end, digits);
+    let size = read_line(input, block, at, end, digits);
     if (*end == 0) & (size == 0) {
         return session;
     }
-    answered(session, digits, size, line, table)
+    answered(output, session, digits, size, line, table)
 }
 
-fn main() {
+fn main(rt: HostRuntime) {
+    let mut input = rt.stdin();
+    let mut output = rt.stdout();
     let mut session = Session::fresh();
     let mut table = [0u32; SAVED];
     let mut block = [0u8; BLOCK];
@@ -142,6 +171,8 @@ fn main() {
         turns -= 1;
         line = std::num::wrapping_add_usize(line, 1);
         let next = take_line(
+            &mut input,
+            &mut output,
             session,
             &mut block,
             &mut at,
@@ -156,5 +187,5 @@ fn main() {
         }
     }
     let counts = session.counts;
-    saved::say_report(counts, &table);
+    saved::say_report(&mut output, counts, &table);
 }

@@ -1,6 +1,7 @@
 // Which numbers spares and parity saved, and from how far ahead: each is written as it leaves, and counted (rules 19.1 to 19.3).
 use crate::text::{say, say_number};
 use session_held::{Counts, ReleaseKind};
+use std::io::Write;
 
 // The greatest distance that has a row of its own.
 const FURTHEST: u16 = 32;
@@ -21,10 +22,10 @@ fn ahead(number: u16, note: u16) -> usize {
 }
 
 // The end of a line: the datagram that filled the number.
-fn say_filler(how: &[u8], note: u16) {
-    say(how);
-    say_number(note as usize);
-    say(b"\n");
+fn say_filler<W: Write>(output: &mut W, how: &[u8], note: u16) {
+    say(output, how);
+    say_number(output, note as usize);
+    say(output, b"\n");
 }
 
 // Counts one more number: the rows of spares begin at 0, those of parity behind them.
@@ -35,26 +36,32 @@ fn count(first: usize, number: u16, note: u16, table: &mut [u32; SAVED]) {
 }
 
 // Writes the line of a number that leaves (rule 19.1).
-pub fn told(kind: ReleaseKind, number: u16, note: u16, table: &mut [u32; SAVED]) {
-    say(b"number ");
-    say_number(number as usize);
+pub fn told<W: Write>(
+    output: &mut W,
+    kind: ReleaseKind,
+    number: u16,
+    note: u16,
+    table: &mut [u32; SAVED],
+) {
+    say(output, b"number ");
+    say_number(output, number as usize);
     match kind {
-        ReleaseKind::Lost => say(b": lost\n"),
-        ReleaseKind::Received => say(b": received\n"),
+        ReleaseKind::Lost => say(output, b": lost\n"),
+        ReleaseKind::Received => say(output, b": received\n"),
         ReleaseKind::Spare => {
-            say_filler(b": spare, from datagram ", note);
+            say_filler(output, b": spare, from datagram ", note);
             count(0, number, note, table);
         }
         ReleaseKind::Repaired => {
-            say_filler(b": repaired, with datagram ", note);
+            say_filler(output, b": repaired, with datagram ", note);
             count(ROWS, number, note, table);
         }
     }
 }
 
-fn say_count(name: &[u8], n: u32) {
-    say(name);
-    say_number(wide(n));
+fn say_count<W: Write>(output: &mut W, name: &[u8], n: u32) {
+    say(output, name);
+    say_number(output, wide(n));
 }
 
 fn wide(n: u32) -> usize {
@@ -62,42 +69,42 @@ fn wide(n: u32) -> usize {
 }
 
 // What a row begins with: its distance, or `behind` for the first one.
-fn say_place(row: usize) {
+fn say_place<W: Write>(output: &mut W, row: usize) {
     if row == 0 {
-        return say(b"behind");
+        return say(output, b"behind");
     }
-    say(b"distance ");
-    say_number(row)
+    say(output, b"distance ");
+    say_number(output, row)
 }
 
 // A row of the table, if it is not zero: how many numbers spares and parity saved from that distance.
-fn say_row(row: usize, table: &[u32; SAVED]) {
+fn say_row<W: Write>(output: &mut W, row: usize, table: &[u32; SAVED]) {
     let place = row % ROWS;
     let spares = table[place];
     let parity = table[place + ROWS];
     if (spares == 0) & (parity == 0) {
         return;
     }
-    say_place(place);
-    say_count(b": spares ", spares);
-    say_count(b", parity ", parity);
-    say(b"\n");
+    say_place(output, place);
+    say_count(output, b": spares ", spares);
+    say_count(output, b", parity ", parity);
+    say(output, b"\n");
 }
 
 // The rows from distance 1 on.
-fn say_rows(table: &[u32; SAVED]) {
+fn say_rows<W: Write>(output: &mut W, table: &[u32; SAVED]) {
     let mut row = 1;
     while row < ROWS {
-        say_row(row, table);
+        say_row(output, row, table);
         row += 1;
     }
 }
 
 // The end of the trace: how many numbers spares and parity saved, and the table (rule 19.2).
-pub fn say_report(counts: Counts, table: &[u32; SAVED]) {
-    say_count(b"\nsaved by spares ", counts.spare);
-    say_count(b", by parity ", counts.repaired);
-    say(b"\n");
-    say_rows(table);
-    say_row(0, table);
+pub fn say_report<W: Write>(output: &mut W, counts: Counts, table: &[u32; SAVED]) {
+    say_count(output, b"\nsaved by spares ", counts.spare);
+    say_count(output, b", by parity ", counts.repaired);
+    say(output, b"\n");
+    say_rows(output, table);
+    say_row(output, 0, table);
 }

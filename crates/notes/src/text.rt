@@ -1,12 +1,13 @@
-// What is written, piece by piece, to standard output.
+// What is written, piece by piece, to standard output. A write that fails is passed over.
 use length::Refusal;
+use std::io::Write;
 
-pub fn say(text: &[u8]) {
-    io::write_all(libc::STDOUT_FILENO, text);
+pub fn say<W: Write>(output: &mut W, text: &[u8]) {
+    let _ = output.write_all(text);
 }
 
-pub fn say_number(n: usize) {
-    io::print_decimal(libc::STDOUT_FILENO, n as u64);
+pub fn say_number<W: Write>(output: &mut W, n: usize) {
+    let _ = write!(output, "{n}");
 }
 
 // `size` octets from a place on, or none if there are fewer.
@@ -26,15 +27,15 @@ fn has_place(number: u8) -> bool {
 }
 
 // A line of the trace that was refused, and at which octet (rule 19.8).
-pub fn say_refused(line: usize, why: Refusal) {
-    say(b"line ");
-    say_number(line);
-    say(b": refused with ");
-    say_number(why.number as usize);
+pub fn say_refused<W: Write>(output: &mut W, line: usize, why: Refusal) {
+    say(output, b"line ");
+    say_number(output, line);
+    say(output, b": refused with ");
+    say_number(output, why.number as usize);
     let number = why.number;
     if has_place(number) {
-        say(b" at octet ");
-        say_number(why.place as usize);
+        say(output, b" at octet ");
+        say_number(output, why.place as usize);
     }
-    say(b"\n");
+    say(output, b"\n");
 }

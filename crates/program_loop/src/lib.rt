@@ -10,32 +10,34 @@ ghost use Rattle.line.specs.Promise.{step_limit};
 ghost use Rattle.line.specs.FeedPromise.{Feedable};
 ghost use Rattle.program_loop.specs.Promise.{Passes, Serves};
 
-use libc::{STDIN_FILENO, STDOUT_FILENO};
 use line::Line;
 use session_held::{Counts, Session};
+use std::io::{Read, Write};
+
+// The most octets of a block of the input, and of what is written at once.
+const BUFFER: usize = 65536;
 
 // The only place that reads: it puts octets at the front of the block, counts them, and returns how many they are, none at the end of the
 // input.
-fn read_on(block: &mut [u8], taken: &mut usize) -> usize
+fn read_on<R: Read>(input: &mut R, block: &mut [u8], taken: &mut usize) -> usize
     ensures upper_bound { result ≤ length block.new }
     ensures taken_after { taken.new ≡ (taken.old + result) % 2 ^ 64 }
 {
-    let got = libc::read(STDIN_FILENO, block);
-    let n = io::count(got, block);
+    let n = input.read(block).unwrap_or(0);
     let before = *taken;
     *taken = std::num::wrapping_add_usize(before, n);
     n
 }
 
 // The only place that writes: it passes the front of the buffer to `write`, counts its octets, and returns whether all were written.
-fn hand_over(out: &[u8], end: usize, handed: &mut usize) -> bool
+fn hand_over<W: Write>(output: &mut W, out: &[u8], end: usize, handed: &mut usize) -> bool
     requires { end ≤ length out.now }
     ensures { handed.new ≡ (handed.old + end) % 2 ^ 64 }
 {
     let front = &out[..end];
     let before = *handed;
     *handed = std::num::wrapping_add_usize(before, front.len());
-    io::write_all(STDOUT_FILENO, front)
+    output.write_all(front).is_ok()
 }
 
 // The session after a block, how much of a line has begun, and whether all was written.
@@ -48,7 +50,8 @@ struct Passed {
 }
 
 // Takes a block of the input from where the last one ended, and writes its text part by part, up to the first write that fails.
-fn pass(
+fn pass<W: Write>(
+    output: &mut W,
     last: Passed,
     table: &mut [u16; Session::PLACES],
     octets: &mut [u8; Session::PACKET_OCTETS],
@@ -86,7 +89,7 @@ fn pass(
         kept = part.begun;
         from += part.taken;
         let end = part.end;
-        if !hand_over(out, end, handed) {
+        if !hand_over(output, out, end, handed) {
             return Passed {
                 base: after,
                 counts: moves,
@@ -115,7 +118,9 @@ pub struct Served {
 
 // Block after block, then the end of the input. A proved loop must terminate, and the input need not end: so the loop counts its turns down
 // from a number that no run uses up.
-pub fn serve(
+pub fn serve<R: Read, W: Write>(
+    input: &mut R,
+    output: &mut W,
     base: u16,
     counts: Counts,
     table: &mut [u16; Session::PLACES],
@@ -128,8 +133,8 @@ pub fn serve(
         result.whole }
 {
     let mut line = [0u8; Line::KEPT];
-    let mut block = io::large_buffer();
-    let mut out = io::large_buffer();
+    let mut block = [0u8; BUFFER];
+    let mut out = [0u8; BUFFER];
     let mut after = base;
     let mut moves = counts;
     let mut begun = 0;
@@ -138,7 +143,7 @@ pub fn serve(
     let mut turns = u64::MAX;
     while turns > 0 {
         turns -= 1;
-        let n = read_on(&mut block, &mut taken);
+        let n = read_on(input, &mut block, &mut taken);
         if n == 0 {
             turns = 0;
         } else {
@@ -149,6 +154,7 @@ pub fn serve(
                 written: true,
             };
             let passed = pass(
+                output,
                 last,
                 table,
                 octets,
@@ -179,7 +185,7 @@ pub fn serve(
     let last_base = ended.base;
     let last_counts = ended.counts;
     let end = ended.end;
-    let whole = hand_over(&out, end, &mut handed);
+    let whole = hand_over(output, &out, end, &mut handed);
     Served {
         base: last_base,
         counts: last_counts,

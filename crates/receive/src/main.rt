@@ -6,8 +6,9 @@ ghost use Rattle.receive.specs.Promise.{Receives};
 
 use program_loop::Served;
 use session_held::Session;
+use std::io::{Read, Write};
 
-fn receive() -> Served
+fn receive<R: Read, W: Write>(input: &mut R, output: &mut W) -> Served
     ensures { Receives result }
 {
     let session = Session::fresh();
@@ -16,9 +17,17 @@ fn receive() -> Served
     let mut table = session.table;
     let mut octets = session.octets;
     let mut messages = session.messages;
-    program_loop::serve(base, counts, &mut table, &mut octets, &mut messages)
+    program_loop::serve(
+        input,
+        output,
+        base,
+        counts,
+        &mut table,
+        &mut octets,
+        &mut messages,
+    )
 }
 
-fn main() {
-    receive();
+fn main(rt: HostRuntime) {
+    receive(&mut rt.stdin(), &mut rt.stdout());
 }

@@ -3,7 +3,7 @@ use Rattle.std.proofs.Common.{◌-◌}
 use Rattle.notes.proofs.saved.say_rows.Given as goal
 
 abbrev pub invariant-loop-row : goal.invariant-loop-row
-invariant-loop-row l = Unit {0}
+invariant-loop-row g l = Unit {0}
 
 abbrev pub decreases-loop-row : goal.decreases-loop-row
-decreases-loop-row l = 33 - l.row
+decreases-loop-row g l = 33 - l.row
