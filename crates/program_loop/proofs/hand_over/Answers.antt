@@ -4,7 +4,7 @@ use Rattle.program_loop.proofs.Serving.{more-tallied}
 use Rattle.program_loop.proofs.hand_over.Goals as goal
 
 pub slice_bounds-front-end : goal.slice_bounds-front-end
-slice_bounds-front-end c = sym (length-take-le _ _ c.requires)
+slice_bounds-front-end g c = sym (length-take-le _ _ c.requires)
 
 pub returns : goal.returns
-returns c = more-tallied c.args.handed.now (length-take-le _ _ c.requires) c.wrapping_add_usize.ensures
+returns g c = more-tallied c.args.handed.now (length-take-le _ _ c.requires) c.wrapping_add_usize.ensures.value

@@ -6,7 +6,7 @@ use Rattle.program_loop.proofs.Serving.{Serving}
 use Rattle.program_loop.proofs.pass.Given as goal
 
 abbrev pub invariant-loop-from : goal.invariant-loop-from
-invariant-loop-from l = Serving (lent l.initial.after l.initial.moves l.initial.table l.initial.octets l.initial.messages) l.initial.line l.initial.kept l.initial.out l.block l.initial.handed (lent l.after l.moves l.table l.octets l.messages) l.line l.kept l.out l.from l.handed
+invariant-loop-from g l = Serving (lent l.initial.after l.initial.moves l.initial.table l.initial.octets l.initial.messages) l.initial.line l.initial.kept l.initial.out l.block l.initial.handed (lent l.after l.moves l.table l.octets l.messages) l.line l.kept l.out l.from l.handed
 
 abbrev pub decreases-loop-from : goal.decreases-loop-from
-decreases-loop-from l = length l.block - l.from
+decreases-loop-from g l = length l.block - l.from

@@ -15,9 +15,9 @@ from-fresh : {first : View} {r : Served} {t o g : List ℕ} → first ≡ fresh_
 from-fresh {t = t} {o} {g} fresh s = record { table = t; octets = o; messages = g; serves = rw fresh at s }
 
 pub serve-requires : goal.serve-requires
-serve-requires c =
+serve-requires g c =
     let fresh = c.fresh-session.ensures in
     session-in-ranges _ fresh.ranges fresh.sized
 
 pub returns : goal.returns
-returns c = from-fresh c.fresh-session.ensures.view c.serve.ensures
+returns g c = from-fresh c.fresh-session.ensures.view c.serve.ensures
