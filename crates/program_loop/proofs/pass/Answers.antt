@@ -14,7 +14,7 @@ take_block-part-requires g c = feedable-block c.loop-from.invariant.feedable
 pub overflow_add-from : goal.overflow_add-from
 overflow_add-from g c =
     let within = part-inside c.args.block.now c.loop-from.invariant c.loop-from-test.true c.take_block-part.ensures in
-    record { fits = omega (arith, c.well_formed.zzz, within) }
+    record { fits = omega (arith, c.well_formed.1.1.1.1.1.1.0, within) }
 
 pub hand_over-requires : goal.hand_over-requires
 hand_over-requires g c = part-fits c.args.block.now c.loop-from.invariant c.loop-from-test.true c.take_block-part.ensures
