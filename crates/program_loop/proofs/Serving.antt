@@ -1,6 +1,6 @@
 -- The program between two parts of a block, on plain values: the front of the block is taken in, and as many octets are handed over
 -- as its text has. Assumes nothing.
-use Rattle.std.proofs.Common.{◌≡◌, ℕ, ◌+◌, ◌-◌, ◌%◌, ◌^◌, ◌<◌, ◌≤◌, Bool, true, false, List, [], ◌++◌, length, take, drop, sym, refl, ap, ◌∙◌, append_assoc, append-nil, arith, length-append, length-drop, length-take-le, take_all, take-add}
+use Rattle.std.proofs.Common.{◌≡◌, ℕ, ◌+◌, ◌-◌, ◌%◌, ◌^◌, ◌<◌, ◌≤◌, true, false, List, [], ◌++◌, length, take, drop, sym, refl, ap, ◌∙◌, append_assoc, append-nil, arith, length-append, length-drop, length-take-le, take_all, take-add}
 use mathlib.Core.Bool.{false≢true}
 use native.Mathlib.Nat.{mod-add-mod}
 use Rattle.session.specs.View.{View}

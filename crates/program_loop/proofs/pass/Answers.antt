@@ -1,6 +1,6 @@
 -- `program_loop::pass` meets its contract: between two parts of the block the program may go on, the front of it is taken in and its text
 -- handed over; each part takes some of it. Assumes nothing.
-use Rattle.std.proofs.Common.{◌-◌, ◌∙◌, arith}
+use Rattle.std.proofs.Common.{◌∙◌, arith}
 use Rattle.line.proofs.Laws.{feedable-block}
 use Rattle.program_loop.proofs.Serving.{serving-start, served, stopped, part-some, part-inside, part-fits, part-done}
 use Rattle.program_loop.proofs.pass.Goals as goal
