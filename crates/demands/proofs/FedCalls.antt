@@ -48,5 +48,7 @@ module _ {row datagrams : List (List ℕ)} where
   pub takes-calls : {calls : Calls} {places : List ℕ} {s t : Session} → CameBy calls s → Takes row datagrams places s t
       → CameOn datagrams calls places t
   takes-calls {calls} came none = record { last = calls; offers = fed.none; came_by = came; none_left = refl }
-  takes-calls came (accepted o is rest) = came-on came o (λ on. takes-calls on rest)
-  takes-calls came (repeated o is rest) = came-on came o (λ on. takes-calls on rest)
+  takes-calls {calls = calls} came (accepted {S = S} {r = r} o is rest) =
+      came-on came o (λ on. takes-calls {calls = calls then offer (datagram_at datagrams S) r.answer} on rest)
+  takes-calls {calls = calls} came (repeated {S = S} {r = r} o is rest) =
+      came-on came o (λ on. takes-calls {calls = calls then offer (datagram_at datagrams S) r.answer} on rest)

@@ -174,7 +174,7 @@ says-lower view (release leave old new r) says = not-17 (subst Lower (sym says.0
 says-lower view (solve r) says = λ e. solve-not-17 view (ap refusal_in (sym says.0) ∙ e)
 
 -- ---- chains
-last_says : {view held : View} {calls : Calls} {call : Call} → GoesOn view (calls then call) held → call_refusal call ≡ some outside_ranges
+last_says : {view : View} {calls : Calls} {call : Call} {held : View} → GoesOn view (calls then call) held → call_refusal call ≡ some outside_ranges
     → ⊥
 last_says (by {call = call} {held = held} on says) = says-lower held call says
 
