@@ -6,7 +6,7 @@ mod image_calls;
 mod joiner;
 mod receiver;
 mod send_calls;
-mod session;
+mod session_lines;
 
 use calls_lines::Out;
 use frame::Joiner;

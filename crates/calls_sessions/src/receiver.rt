@@ -1,6 +1,6 @@
 // Lines 10 to 17, 19 and 1A, on the receiving session (rules 25.15 to 25.22, 25.24 and 25.25).
 use crate::image_calls::restored;
-use crate::session::{gone_on, overwritten, say_counts, say_view};
+use crate::session_lines::{gone_on, overwritten, say_counts, say_view};
 use calls_lines::{
     Out, fits, number, octet, row_of, say, say_all, say_done, say_no_call, say_refused, target_of,
 };

@@ -1,6 +1,6 @@
--- `calls_sessions::session::say_view` is safe and ends. The numbers left are the measure of each loop, and nothing has to hold from
+-- `calls_sessions::session_lines::say_view` is safe and ends. The numbers left are the measure of each loop, and nothing has to hold from
 -- turn to turn. Assumes nothing.
-use Rattle.calls_sessions.proofs.session.say_view.Given as goal
+use Rattle.calls_sessions.proofs.session_lines.say_view.Given as goal
 
 abbrev pub invariant-loop-left : goal.invariant-loop-left
 invariant-loop-left l = Unit {0}

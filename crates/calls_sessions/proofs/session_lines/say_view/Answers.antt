@@ -1,7 +1,7 @@
--- `calls_sessions::session::say_view` is safe and ends. The numbers left are the measure of each loop, and nothing has to hold from
+-- `calls_sessions::session_lines::say_view` is safe and ends. The numbers left are the measure of each loop, and nothing has to hold from
 -- turn to turn. Assumes nothing.
 use Rattle.std.proofs.Common.{rules}
-use Rattle.calls_sessions.proofs.session.say_view.Goals as goal
+use Rattle.calls_sessions.proofs.session_lines.say_view.Goals as goal
 
 wrapping-add-u16-requires-2 :
     tie.Need-wrapping-add-u16-requires-2 invariant-loop decreases-loop invariant-loop2 decreases-loop2
