@@ -1,6 +1,6 @@
 -- `replay::taking::take_block` meets its contract: after each line the next may come, and the front of the last one is kept. What is left
 -- of the block is the measure. Assumes nothing.
-use Rattle.std.proofs.Common.{◌-◌, sym, ◌∙◌, arith}
+use Rattle.std.proofs.Common.{sym, ◌∙◌, arith}
 use Rattle.replay.proofs.Turning.{feed-inside, goes-start, goes_then, goes_kept}
 use Rattle.replay.proofs.taking.take_block.Goals as goal
 
