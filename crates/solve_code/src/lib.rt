@@ -107,7 +107,8 @@ pub fn solve_core(
 {
     let rows = equations::table(base, table);
     let reduced = solve_algebra::reduced(rows);
-    let all = sides(base, table, octets, messages);
+    let mut all = [0u8; Session::MESSAGE_OCTETS];
+    sides(base, table, octets, messages, &mut all);
     let ok = all_fit(&all, reduced);
     if ok {
         fill_rows(base, table, octets, &all, reduced);

@@ -33,18 +33,17 @@ pub fn sides(
     table: &[u16],
     octets: &[u8],
     messages: &[u8],
-) -> [u8; Session::MESSAGE_OCTETS]
+    all: &mut [u8; Session::MESSAGE_OCTETS],
+)
     requires { MayMend base table.now octets.now messages.now }
-    ensures { SidesLaid base table.now octets.now messages.now result }
+    ensures { SidesLaid base table.now octets.now messages.now all.new }
 {
-    let mut all = [0u8; Session::MESSAGE_OCTETS];
     let mut e = 0;
     while e < Row::COUNT {
         let one = side(base, table, octets, messages, e);
-        session_slots::put(&mut all, e, &one);
+        session_slots::put(all, e, &one);
         e += 1;
     }
-    all
 }
 
 // What a row asks for: the exclusive or of what its equations ask for.

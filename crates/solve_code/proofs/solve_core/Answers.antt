@@ -8,10 +8,10 @@ table-rows-requires c = searchable c.requires
 
 pub returns-then-ok : goal.returns-then-ok
 returns-then-ok c =
-    solved-filled c.requires c.table-rows.ensures c.reduced-reduced.ensures c.sides-all.ensures
+    solved-filled c.requires c.table-rows.ensures c.reduced-reduced.ensures c.sides.ensures
     c.all_fit-ok.ensures c.if-ok.true c.fill_rows.ensures
 
 pub returns : goal.returns
 returns c =
-    solved-refused c.requires c.table-rows.ensures c.reduced-reduced.ensures c.sides-all.ensures
+    solved-refused c.requires c.table-rows.ensures c.reduced-reduced.ensures c.sides.ensures
     c.all_fit-ok.ensures c.if-ok.false c.new-why.ensures

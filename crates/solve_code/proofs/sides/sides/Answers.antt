@@ -1,13 +1,11 @@
 -- `solve_code::sides::sides` meets its contract. The loop's invariant: what the first e equations ask for is laid. The measure is the
 -- equations left. Assumes nothing.
-use Rattle.std.proofs.Common.{ℕ, ◌-◌, arith}
-use lib.ListN.{length-replicate}
-use Rattle.session_held.specs.Slots.{message_octets}
+use Rattle.std.proofs.Common.{◌-◌, arith, rules}
 use Rattle.solve_code.proofs.Siding.{sides-start, slot-there, sides-turn, sides-done}
 use Rattle.solve_code.proofs.sides.sides.Goals as goal
 
 pub loop-e-init : goal.loop-e-init
-loop-e-init c = sides-start _ _ _ _ (length-replicate {A = ℕ} message_octets 0)
+loop-e-init c = search (sides-start, rules)
 
 pub side-one-requires-clause-may_mend : goal.side-one-requires-clause-may_mend
 side-one-requires-clause-may_mend c = c.requires
