@@ -36,6 +36,7 @@ def today(text):
     """The text of a definition as it is spelt today: words, then projections."""
     text = re.sub(r"(?<![\w.·])(?:Prim\.Native|mathlib\.Core|lib)\.\w+\.(?=\w)", PRELUDE + ".", text)
     text = WORD.sub(lambda m: respelled(m.group(0)), text)
+    text = re.sub(r"\(([\w']+(?: [\w']+)+) \.([a-z]\w*)\)", r"(\1).\2", text)
     text = re.sub(r"(?<=[\w)'?]) \.(?=[a-z0-9])", ".", text)
     text = re.sub(r"(?<![\w'?])\(([\w']+(?:\.[\w']+)+)\)", r"\1", text)
     text = re.sub(r"\((\((?:[^()]|\([^()]*\))*\)(?:\.[a-z]\w*)+)\)", r"\1", text)
