@@ -24,6 +24,7 @@ SIZES = (('PACKET_LIMIT', 'datagram_sizes/src/lib.rt', 'Packet', 'LIMIT'),
 # Calls over the header, and one with two arguments exchanged, which must not compile where warnings are errors.
 CALL = ('#include "tubarexi.h"\nint made(uint8_t *, size_t *);\nint made(uint8_t *out, size_t *written)\n'
         '{ return tbx_packet_write(%s, 0, 0, 0, 0, 0, 0, out, 9, written); }\n')
+LIBRARY_FILES = 'libtubarexi.a', 'log', 'made', 'new.a', 'proved', 'proved.a', 'proved.new', 'tubarexi.o'
 RIGHT, EXCHANGED = 'TBX_EDITION_1998, TBX_DATA', 'TBX_DATA, TBX_EDITION_1998'
 
 
@@ -76,6 +77,11 @@ def named(command):
     return '%d names' % len(said)
 
 
+def written():
+    """When each file of the library was written, those of bin/build-host without arguments: other checks build programs beside them."""
+    return {each.name: each.stat().st_mtime_ns for each in (TOP / 'target/host').iterdir() if each.name in LIBRARY_FILES}
+
+
 def installed():
     """make installs the library, the header and a pkg-config file, where PREFIX, LIBDIR and DESTDIR say; uninstall leaves nothing. Once all
     is built, it needs no rt and writes nothing in the tree."""
@@ -83,7 +89,7 @@ def installed():
         top = pathlib.Path(directory)
         settings = ['DESTDIR=' + directory, 'PREFIX=/of/this', 'LIBDIR=/of/this/lib64']
         path = ':'.join(place for place in os.environ['PATH'].split(':') if not (pathlib.Path(place) / 'rt').exists())
-        before = {each: each.stat().st_mtime_ns for each in (TOP / 'target/host').iterdir()}
+        before = written()
         files = ['of/this/include/tubarexi.h', 'of/this/lib64/libtubarexi.a', 'of/this/lib64/pkgconfig/tubarexi.pc']
         for asked, owed in (('install', files), ('uninstall', [])):
             ran = subprocess.run(['make', '-s', '-C', str(TOP), asked, *settings], stdout=subprocess.PIPE, stderr=subprocess.STDOUT,
@@ -95,7 +101,7 @@ def installed():
                 text = (top / owed[2]).read_text()
                 if 'libdir=/of/this/lib64\n' not in text or 'Version: %s\n' % one_version() not in text or '@' in text:
                     raise Failed('make install: tubarexi.pc is %s' % text)
-        if before != {each: each.stat().st_mtime_ns for each in (TOP / 'target/host').iterdir()}:
+        if before != written():
             raise Failed('make install: it wrote in target/host')
     return 'three files, and none after make uninstall'
 
