@@ -50,8 +50,15 @@ pub fn tell_entries(out: &mut Out, list: &[u16], count: usize) {
     }
 }
 
+fn tell_number(out: &mut Out, n: usize) {
+    let _ = write!(out, " {n}");
+}
+
 pub fn tell_refused(out: &mut Out, why: Refusal, trace: u8, line: usize) {
-    let number = why.number;
-    let place = why.place;
-    let _ = writeln!(out, "refused {number} {place} {trace} {line}");
+    let _ = out.write_all(b"refused");
+    tell_number(out, why.number as usize);
+    tell_number(out, why.place);
+    tell_number(out, trace as usize);
+    tell_number(out, line);
+    let _ = out.write_all(b"\n");
 }

@@ -29,7 +29,7 @@ pub const PATH_MAX: usize = 4096;
 fn name_of(path: &[u8]) -> io::Result<&str> {
     match std::str::from_utf8(path) {
         Ok(name) => Ok(name),
-        Err(_) => Err(Error::new(ErrorKind::InvalidFilename, "the name is no UTF-8")),
+        Err(_) => Err(Error::new(ErrorKind::InvalidFilename, "the name is not UTF-8")),
     }
 }
 
