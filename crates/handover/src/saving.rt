@@ -39,8 +39,8 @@ fn front(octets: &[u8], size: usize) -> &[u8] {
     &octets[..0]
 }
 
-// Fails if a file cannot be replaced: there is none of that name, or it can be written and is on a disk. A device or a pipe cannot be
-// synced to a disk, and is not replaced (rule 20.29).
+// A file can be replaced if there is none of that name, or if it can be written and is on a disk; for any other this fails. A device or a
+// pipe cannot be synced to a disk, and is not replaced (rule 20.29).
 fn replaceable(rt: &HostRuntime, path: &str) -> io::Result<()> {
     match OpenOptions::new().read(true).write(true).open(rt, path) {
         Ok(file) => file.sync_all(),
