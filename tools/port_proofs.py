@@ -195,7 +195,6 @@ class Function:
                 return self.path(m.group(2)[1:].split("."))
             return m.group(0)
 
-        # a 'let' of a longer path that ends in a place again is an alias too
         text = PATH.sub(turn, text)
         for a in aliases - {"c"}:
             text = re.sub(r"(?<![\w'.\-])" + re.escape(a) + r"(?![\w'\-])", "c", text)
@@ -284,7 +283,6 @@ def turn(path, module, fn):
             body = d.group(2).rstrip()
             to = dict(zip(args, want))
             body = re.sub(r"(?<![\w'.\-₀-₉])" + WORD, lambda k: to.get(k.group(0), k.group(0)), body)
-            prior = "\n".join(l for l in b.split("\n") if l.startswith("--"))
             invariants.append(f"abbrev pub {kind}-{new} : goal.{kind}-{new}\n{kind}-{new} l = {body}")
             continue
         m = re.search(r"^(?:pub )*" + WORD + r" : tie\.Need-(\S+)[^\n]*$", code, re.M)
