@@ -55,7 +55,7 @@ def rules_names():
     """Annex A's names, as explain has them: of indicators, of data kinds and of field types, each in the order of their numbers."""
     text = (TOP / 'crates/explain/src/names.rt').read_text()
     return {what: re.findall(r'^([\w-]+), ', found, re.M) for what, found in
-            zip(('indicator', 'data', 'type'), re.findall(r'b"(.*?)"', text, re.S)[-3:])}
+            zip(('indicator', 'data', 'type'), re.findall(r'"(.*?)"', text, re.S)[-3:])}
 
 
 def named(command):
@@ -115,7 +115,8 @@ def numbers_agree(header=TOP / 'include/tubarexi.h'):
         found = re.search(r'^impl %s \{(.*?)^\}' % struct, (TOP / 'crates' / file).read_text(), re.M | re.S)
         return {name: int(value) for name, value in constants.findall(found.group(1))}
 
-    asked = declared('length/src/lib.rt', 'Refusal')
+    reasons = re.search(r'^pub enum Reason \{(.*?)^\}', (TOP / 'crates/length/src/lib.rt').read_text(), re.M | re.S)
+    asked = {re.sub(r'\B([A-Z])', r'_\1', name).upper(): int(number) for name, number in re.findall(r'(\w+) = ([0-9]+),', reasons.group(1))}
     asked.update((name, declared(file, struct)[constant]) for name, file, struct, constant in SIZES)
     asked['KEPT'] = declared('session_held/src/lib.rt', 'Session')['BEFORE'] + asked['HEARD']
     asked.update((name.upper().replace('-', '_'), number) for names in rules_names().values() for number, name in enumerate(names))

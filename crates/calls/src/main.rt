@@ -6,157 +6,114 @@ mod compare;
 mod input;
 mod replay;
 
-use calls_lines::{CAP, FILLING, Out, number, octet, part, say_no_call};
+use calls_lines::{Arguments, CAP, FILLING, Out, say_no_call};
 use calls_sessions::Held;
 use input::{KEPT, octets_of};
-use program_input::{BLOCK, read_line};
+use program_input::Lines;
 use std::io;
-use std::io::{BufWriter, Stdin, Write};
+use std::io::{BufWriter, Write};
 
-// Any number of octets of arguments: the arguments themselves say how many.
-const ANY: usize = 15;
+// How many octets of arguments a line has before its cap.
+#[derive(Drop)]
+#[derive(Clone, Copy)]
+enum Size {
+    Any,
+    Only(usize),
+}
 
-// More octets than a line has: the line is no call (rule 25.5).
-const NONE: usize = KEPT;
-
-// The shape of a line: 16 times how many octets of arguments it has before its cap, plus how many octets its cap has (rules 25.8 to 25.36).
-// The cap is the last argument.
-fn shape_of(call: u8) -> usize {
+// The shape of a line: how many octets of arguments it has before its cap, and how many octets its cap has, which is the last argument
+// (rules 25.8 to 25.36). None if there is no such call.
+fn shape_of(call: u8) -> Option<(Size, usize)> {
     match call {
-        0x01 | 0x03 | 0x05 | 0x07 | 0x11 | 0x19 => 16 * ANY,
-        0x02 => 0x22,
-        0x04 | 0x06 | 0x21 | 0x31 | 0x50 => 16 * ANY + 2,
-        0x40 => 16 * ANY + 4,
-        0x10 | 0x14 | 0x15 | 0x1A | 0x20 | 0x30 | 0x32 | 0x33 => 0x00,
-        0x12 => 0x12,
-        0x16 | 0x22 => 0x40,
-        0x17 => 0xA0,
-        0x18 => 0x04,
-        0x23 => 0x90,
-        0x34 => 0x50,
-        _ => 16 * NONE,
+        0x01 | 0x03 | 0x05 | 0x07 | 0x11 | 0x19 => Some((Size::Any, 0)),
+        0x02 => Some((Size::Only(2), 2)),
+        0x04 | 0x06 | 0x21 | 0x31 | 0x50 => Some((Size::Any, 2)),
+        0x40 => Some((Size::Any, 4)),
+        0x10 | 0x14 | 0x15 | 0x1A | 0x20 | 0x30 | 0x32 | 0x33 => Some((Size::Only(0), 0)),
+        0x12 => Some((Size::Only(1), 2)),
+        0x16 | 0x22 => Some((Size::Only(4), 0)),
+        0x17 => Some((Size::Only(10), 0)),
+        0x18 => Some((Size::Only(0), 4)),
+        0x23 => Some((Size::Only(9), 0)),
+        0x34 => Some((Size::Only(5), 0)),
+        _ => None,
     }
 }
 
-// How many octets of arguments a line of `length` octets has before its cap, or NONE if the line is no call.
-fn size_of(call: u8, length: usize) -> usize {
-    let shape = shape_of(call);
-    let fixed = shape / 16;
-    let behind = 1 + shape % 16;
-    if length < behind {
-        return NONE;
-    }
-    let size = length - behind;
-    if (fixed == ANY) | (fixed == size) {
-        return size;
-    }
-    NONE
+// A line taken apart: its call, its arguments before the cap, and the cap, which is 0 if the call has none.
+#[derive(Drop)]
+struct Parts<'a> {
+    call: u8,
+    arguments: &'a [u8],
+    cap: usize,
 }
 
-// The cap: the number behind the call and `size` octets of arguments, 0 if nothing is there.
-fn cap_of(octets: &[u8], size: usize) -> usize {
-    if octets.len() <= size {
-        return 0;
+// The parts of a line, or None if it is no call.
+fn parts_of(octets: &[u8]) -> Option<Parts<'_>> {
+    let (call, behind) = octets.split_first()?;
+    let (size, width) = shape_of(*call)?;
+    let (arguments, cap) = behind.split_at_checked(behind.len().checked_sub(width)?)?;
+    if let Size::Only(size) = size
+        && arguments.len() != size
+    {
+        return None;
     }
-    let mut at = 1 + size;
-    let width = octets.len() - at;
-    number(octets, &mut at, width) as usize
-}
-
-// Makes the call of a line, and returns what the program holds after it.
-fn called(out: &mut Out, held: Held, call: u8, octets: &[u8], lent: &mut [u8]) -> Held {
-    if call < 0x10 {
-        calls_lines::answer(out, call, octets, lent);
-        return held;
-    }
-    calls_sessions::answer(out, held, call, octets, lent)
+    Some(Parts {
+        call: *call,
+        arguments,
+        cap: Arguments::of(cap).number(width) as usize,
+    })
 }
 
 // Makes the calls that need a larger buffer or list of their own. They change nothing that the program holds (rule 25.45).
-fn called_apart(out: &mut Out, held: Held, call: u8, octets: &[u8], cap: usize) {
-    match call {
-        0x40 => replay::answer(out, octets, cap),
-        0x50 => compare::answer(out, octets, cap),
-        _ => calls_sessions::write_image(out, held, cap),
+fn called_apart(out: &mut Out, held: &Held, line: Parts<'_>) {
+    match line.call {
+        0x40 => replay::answer(out, line.arguments, line.cap),
+        0x50 => compare::answer(out, line.arguments, line.cap),
+        _ => calls_sessions::write_image(out, *held, line.cap),
     }
 }
 
-// The first octet of a line, which names the call.
-fn call_of(octets: &[u8]) -> u8 {
-    let mut at = 0;
-    octet(octets, &mut at)
-}
-
-// Answers a line of `count` octets. The call gets the first octets of `all`, as many as its cap says, as its buffer (rule 25.4).
-fn answered(out: &mut Out, held: Held, line: &[u8; KEPT], count: usize, all: &mut [u8]) -> Held {
-    let octets = part(line, 0, count);
-    let call = call_of(octets);
-    let size = size_of(call, octets.len());
-    if size != NONE {
-        let cap = cap_of(octets, size);
-        let arguments = part(octets, 1, size);
-        if (call == 0x18) | (call == 0x40) | (call == 0x50) {
-            called_apart(out, held, call, arguments, cap);
-            return held;
-        }
-        if cap <= all.len() {
-            let start = 0;
-            return called(out, held, call, arguments, &mut all[start..cap]);
-        }
-    }
-    say_no_call(out);
-    held
-}
-
-// Reads one line of the input, and answers it unless it is empty (rule 25.6). What `line` and `octets` held before does not matter.
-fn turn(
-    out: &mut Out,
-    input: &mut Stdin,
-    held: Held,
-    block: &mut [u8; BLOCK],
-    at: &mut usize,
-    end: &mut usize,
-    line: &mut [u8; KEPT],
-    octets: &mut [u8; KEPT],
-) -> Held {
+// Answers a line, and returns what the program holds after it. The call gets a buffer of as many octets as its cap says (rule 25.4).
+fn answered(out: &mut Out, held: Held, octets: &[u8]) -> Held {
     let mut all = [FILLING; CAP];
-    let size = read_line(input, block, at, end, line);
-    if size == 0 {
+    let Some(line) = parts_of(octets) else {
+        say_no_call(out);
+        return held;
+    };
+    if matches!(line.call, 0x18 | 0x40 | 0x50) {
+        called_apart(out, &held, line);
         return held;
     }
-    let count = octets_of(line, size, octets);
-    let after = answered(out, held, octets, count, &mut all);
-    let _ = out.write_all(b"\n");
-    let _ = out.flush();
-    after
+    match all.get_mut(..line.cap) {
+        Some(lent) if line.call < 0x10 => {
+            calls_lines::answer(out, line.call, line.arguments, lent);
+            held
+        }
+        Some(lent) => calls_sessions::answer(out, held, line.call, line.arguments, lent),
+        None => {
+            say_no_call(out);
+            held
+        }
+    }
 }
 
 fn main(rt: HostRuntime) -> io::Result<()> {
-    let mut input = rt.stdin();
+    let mut lines = Lines::new(rt.stdin());
     let mut out = BufWriter::new(rt.alloc(), rt.stdout())?;
     let mut held = Held::fresh();
-    let mut block = [0u8; BLOCK];
-    let mut line = [0u8; KEPT];
+    let mut kept = [0u8; KEPT];
     let mut octets = [0u8; KEPT];
-    let mut at = 0;
-    let mut end = 0;
-    // The input may never end, so the turns are counted down from a number that no run uses up.
-    let mut turns = u64::MAX;
-    while turns > 0 {
-        turns -= 1;
-        let after = turn(
-            &mut out,
-            &mut input,
-            held,
-            &mut block,
-            &mut at,
-            &mut end,
-            &mut line,
-            &mut octets,
-        );
-        held = after;
-        if end == 0 {
-            return Ok(());
+    // The input may never end, so the lines are counted up to a number that no run reaches.
+    for _ in 0..u64::MAX {
+        let Some(line) = lines.next_line(&mut kept, b"") else {
+            break;
+        };
+        // An empty line has no answer (rule 25.6).
+        if !line.is_empty() {
+            held = answered(&mut out, held, octets_of(line, &mut octets).unwrap_or(&[]));
+            let _ = out.write_all(b"\n");
+            let _ = out.flush();
         }
     }
     Ok(())

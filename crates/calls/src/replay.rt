@@ -1,7 +1,6 @@
 // Line 40: a trace played again with chosen losses (rules 21.1, 21.2 and 25.35).
-use calls_lines::{
-    FILLING, LONGEST, Out, first, numbers, part, say, say_long, say_no_call, say_refused, sized,
-};
+use calls_lines::{Arguments, FILLING, LONGEST, Out, say, say_all, say_no_call, say_refused};
+use length::Refusal;
 use session_held::Counts;
 use trace_replay::Replayed;
 
@@ -15,37 +14,31 @@ fn say_counts(out: &mut Out, counts: Counts) {
     say(out, counts.lost, 4);
 }
 
-fn say_replayed(out: &mut Out, answer: Replayed) {
+fn say_replayed(out: &mut Out, answer: Result<Replayed, Refusal>) {
     match answer {
-        Replayed::Done { counts, size } => {
+        Ok(Replayed { counts, size }) => {
             say(out, 0, 1);
             say_counts(out, counts);
             say(out, (size % 4294967296) as u32, 4);
         }
-        Replayed::Refused(why) => say_refused(out, why),
+        Err(why) => say_refused(out, why),
     }
 }
 
-// Replays the trace, with the first `cap` octets of `all` as the buffer (rule 25.4).
-fn replayed(out: &mut Out, trace: &[u8], listed: &[u16], cap: usize, all: &mut [u8]) {
-    if cap <= all.len() {
-        let start = 0;
-        let answer = trace_replay_code::replay(trace, listed, &mut all[start..cap]);
-        say_replayed(out, answer);
-        return say_long(out, part(all, 0, cap));
-    }
-    say_no_call(out)
-}
-
-// Reads the count, the numbers to drop, the length and the trace, and answers (rule 25.35).
+// Reads the numbers to drop behind their count and the trace behind its length, and replays it to a buffer of `cap` octets (rules 25.4 and
+// 25.35).
 pub fn answer(out: &mut Out, octets: &[u8], cap: usize) {
     let mut listed = [0u16; NUMBERS];
     let mut all = [FILLING; LONGEST];
-    let mut at = 0;
-    let count = numbers(octets, &mut at, 2, &mut listed);
-    let trace = sized(octets, &mut at, 4);
-    if at == octets.len() {
-        return replayed(out, trace, first(&listed, count), cap, &mut all);
+    let mut arguments = Arguments::of(octets);
+    let dropped = arguments.numbers(2, &mut listed);
+    let trace = arguments.sized(4);
+    match all.get_mut(..cap) {
+        Some(lent) if arguments.are_all() => {
+            let answer = trace_replay_code::replay(trace, dropped, lent);
+            say_replayed(out, answer);
+            say_all(out, lent);
+        }
+        _ => say_no_call(out),
     }
-    say_no_call(out)
 }

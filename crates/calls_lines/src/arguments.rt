@@ -1,74 +1,71 @@
-// The arguments of a call, read one after the other from the place `at`. Past the end an argument reads as 0 and moves `at` past the end.
-// So a line has all of its arguments and nothing more exactly if `at` equals its length at last (rule 25.5).
+// The arguments of a call, read one after the other.
 
-pub fn octet(octets: &[u8], at: &mut usize) -> u8 {
-    let i = *at;
-    if i < octets.len() {
-        *at = i + 1;
-        return octets[i];
-    }
-    *at = usize::MAX;
-    0
+// The octets that are still to be read. Past the end an argument reads as 0 and as no octets; from then on it is None, and the line lacks
+// arguments (rule 25.5).
+#[derive(Drop)]
+pub struct Arguments<'a> {
+    left: Option<&'a [u8]>,
 }
 
-// A number of `width` octets, high octet first.
-pub fn number(octets: &[u8], at: &mut usize, width: usize) -> u32 {
-    let mut n: u32 = 0;
-    let mut left = width;
-    while left > 0 {
-        let low = octet(octets, at);
-        n = n % 16777216 * 256 + (low as u32);
-        left -= 1;
+impl<'a> Arguments<'a> {
+    pub fn of(octets: &'a [u8]) -> Arguments<'a> {
+        Arguments { left: Some(octets) }
     }
-    n
-}
 
-// `size` octets from `start` on, or none if there are fewer.
-pub fn part(octets: &[u8], start: usize, size: usize) -> &[u8] {
-    if start <= octets.len() {
-        if size <= octets.len() - start {
-            let end = start + size;
-            return &octets[start..end];
+    fn take(&mut self, size: usize) -> Option<&'a [u8]> {
+        let parts = self.left.and_then(|left| left.split_at_checked(size));
+        self.left = parts.map(|(_, rest)| rest);
+        parts.map(|(front, _)| front)
+    }
+
+    pub fn octet(&mut self) -> u8 {
+        match self.take(1) {
+            Some([octet]) => *octet,
+            _ => 0,
         }
     }
-    &octets[..0]
-}
 
-// Octets behind their length, which has `width` octets.
-pub fn sized<'a>(octets: &'a [u8], at: &mut usize, width: usize) -> &'a [u8] {
-    let size = number(octets, at, width) as usize;
-    let start = *at;
-    if start <= octets.len() {
-        if size <= octets.len() - start {
-            let end = start + size;
-            *at = end;
-            return &octets[start..end];
+    // A number of two octets, high octet first.
+    pub fn two(&mut self) -> u16 {
+        let high = self.octet();
+        let low = self.octet();
+        u16::from_be_bytes([high, low])
+    }
+
+    // A number of `width` octets, high octet first.
+    pub fn number(&mut self, width: usize) -> u32 {
+        let mut n: u32 = 0;
+        for _ in 0..width {
+            n = n % 16777216 * 256 + u32::from(self.octet());
         }
+        n
     }
-    *at = usize::MAX;
-    &octets[..0]
-}
 
-// Writes numbers of two octets, behind their count of `width` octets, to the front of `out`, and returns how many they are.
-pub fn numbers(octets: &[u8], at: &mut usize, width: usize, out: &mut [u16]) -> usize {
-    let count = number(octets, at, width) as usize;
-    let mut i = 0;
-    while i < count {
-        let n = number(octets, at, 2);
-        let place = i;
-        i += 1;
-        if place < out.len() {
-            out[place] = (n % 65536) as u16;
+    // Octets behind their length, which has `width` octets.
+    pub fn sized(&mut self, width: usize) -> &'a [u8] {
+        let size = self.number(width) as usize;
+        self.take(size).unwrap_or(&[])
+    }
+
+    // Numbers of two octets behind their count of `width` octets, written to the front of `out`; none if it has no room for them.
+    pub fn numbers<'b>(&mut self, width: usize, out: &'b mut [u16]) -> &'b [u16] {
+        let count = self.number(width) as usize;
+        let Some(listed) = out.get_mut(..count) else {
+            return &[];
+        };
+        for place in listed.iter_mut() {
+            *place = self.two();
         }
+        listed
     }
-    count
-}
 
-// The first `count` numbers, or none if there are fewer.
-pub fn first(all: &[u16], count: usize) -> &[u16] {
-    if count <= all.len() {
-        let start = 0;
-        return &all[start..count];
+    // All octets that are left, unless the line lacks arguments.
+    pub fn rest(self) -> Option<&'a [u8]> {
+        self.left
     }
-    &all[..0]
+
+    // Whether the line has all of its arguments, and nothing more (rule 25.5).
+    pub fn are_all(&self) -> bool {
+        matches!(self.left, Some([]))
+    }
 }

@@ -1,5 +1,5 @@
 // Lines 17 and 23: which fields of a session can be overwritten, at which places and with which values (rules 25.37, 25.38 and 25.41).
-use crate::arguments::{number, octet};
+use crate::arguments::Arguments;
 use datagram::{Packet, Parity};
 
 // What a line asks for.
@@ -15,19 +15,14 @@ pub struct Target {
 
 // Field, number, in line 17 alone a message, then octet and value, which are the last six octets (rules 25.22 and 25.29).
 pub fn target_of(octets: &[u8]) -> Target {
-    let mut at = 0;
-    let field = octet(octets, &mut at);
-    let named = number(octets, &mut at, 2);
-    let message = octet(octets, &mut at);
-    let mut last = std::num::wrapping_sub_usize(octets.len(), 6);
-    let place = number(octets, &mut last, 2);
-    let value = number(octets, &mut last, 4);
+    let mut front = Arguments::of(octets);
+    let mut last = Arguments::of(&octets[octets.len().saturating_sub(6)..]);
     Target {
-        field,
-        number: (named % 65536) as u16,
-        message,
-        octet: (place % 65536) as u16,
-        value,
+        field: front.octet(),
+        number: front.two(),
+        message: front.octet(),
+        octet: last.two(),
+        value: last.number(4),
     }
 }
 
@@ -64,9 +59,9 @@ pub fn row_of(line: u16) -> Row {
 
 // Whether the place is there and the value fits the field (rules 25.37 and 25.41).
 pub fn fits(row: Row, base: u16, t: Target) -> bool {
-    let first = std::num::wrapping_sub_u16(base, row.1);
-    let place = std::num::wrapping_sub_u16(t.number, first) as u32;
-    let message = t.message as u32;
-    let octet = t.octet as u32;
-    (t.value <= row.0) & (place < row.2) & (message < row.3) & (octet < row.4)
+    let place = t.number.wrapping_sub(base.wrapping_sub(row.1));
+    t.value <= row.0
+        && u32::from(place) < row.2
+        && u32::from(t.message) < row.3
+        && u32::from(t.octet) < row.4
 }

@@ -8,9 +8,9 @@ mod fields;
 mod items;
 
 pub use answers::{
-    CAP, FILLING, LONGEST, Out, say, say_all, say_done, say_long, say_no_call, say_numbers,
-    say_refused, say_sized, say_written,
+    CAP, FILLING, LONGEST, Out, say, say_all, say_done, say_no_call, say_numbers, say_refused,
+    say_sized, say_written,
 };
-pub use arguments::{first, number, numbers, octet, part, sized};
+pub use arguments::Arguments;
 pub use fields::{Row, Target, fits, row_of, target_of};
 pub use items::{PARITY, SPARES, answer};

@@ -24,13 +24,10 @@ pub struct Held {
 
 impl Held {
     pub fn fresh() -> Held {
-        let receiver = Session::fresh();
-        let sender = Sender::fresh();
-        let joiner = Joiner::fresh();
         Held {
-            receiver,
-            sender,
-            joiner,
+            receiver: Session::fresh(),
+            sender: Sender::fresh(),
+            joiner: Joiner::fresh(),
         }
     }
 }
@@ -38,26 +35,15 @@ impl Held {
 // Makes the call of a line, by its group, and returns what the program holds after it.
 pub fn answer(out: &mut Out, held: Held, call: u8, octets: &[u8], lent: &mut [u8]) -> Held {
     let mut r = held;
-    if call < 0x20 {
-        let receiver = held.receiver;
-        let after = receiver::answer(out, receiver, call, octets, lent);
-        r.receiver = after;
-        return r;
+    match call {
+        ..0x20 => r.receiver = receiver::answer(out, held.receiver, call, octets, lent),
+        0x20..0x30 => r.sender = send_calls::answer(out, held.sender, call, octets, lent),
+        _ => r.joiner = joiner::answer(out, held.joiner, call, octets, lent),
     }
-    if call < 0x30 {
-        let sender = held.sender;
-        let after = send_calls::answer(out, sender, call, octets, lent);
-        r.sender = after;
-        return r;
-    }
-    let joiner = held.joiner;
-    let after = joiner::answer(out, joiner, call, octets, lent);
-    r.joiner = after;
     r
 }
 
 // 18: writes the receiving session as an image (rule 25.23).
 pub fn write_image(out: &mut Out, held: Held, cap: usize) {
-    let receiver = held.receiver;
-    image_calls::write(out, receiver, cap)
+    image_calls::write(out, held.receiver, cap)
 }

@@ -2,9 +2,20 @@
 // file depends on how the table and the stores of a receiving session are laid out.
 use calls_lines::{Out, Target, say, say_done, say_sized};
 use datagram::{Packet, Parity};
-use session_calls::{Counts, Session};
+use session_calls::Session;
 
-// The fields of line 17 that are in the table, and those that are octets (rule 25.38).
+// The fields of line 17: the base and the counts, those that are in the table, and those that are octets (rule 25.38).
+// They are octets of the test program's lines (tests/CALLS.md).
+const BASE: u8 = 0;
+
+const RECEIVED: u8 = 1;
+
+const SPARE: u8 = 2;
+
+const REPAIRED: u8 = 3;
+
+const LOST: u8 = 4;
+
 const STATE: u8 = 5;
 
 const SIZE: u8 = 6;
@@ -25,14 +36,14 @@ const NOTE: u8 = 13;
 
 // The slot of a message of a number (rule 25.39).
 fn message_slot(number: u16, message: usize) -> usize {
-    let slot = (number as usize) % Session::HEARD;
+    let slot = usize::from(number) % Session::HEARD;
     slot * Parity::MESSAGES + message % Parity::MESSAGES
 }
 
 // The place in the table of a field of a number, or of one of its messages (rule 25.39).
 fn place_of(field: u8, number: u16, message: usize) -> usize {
-    let kept = (number as usize) % Session::KEPT;
-    let heard = (number as usize) % Session::HEARD;
+    let kept = usize::from(number) % Session::KEPT;
+    let heard = usize::from(number) % Session::HEARD;
     match field {
         STATE => kept,
         SIZE => Session::SIZES + kept,
@@ -46,27 +57,14 @@ fn place_of(field: u8, number: u16, message: usize) -> usize {
 
 // The value at that place.
 fn value_at(t: &[u16; Session::PLACES], field: u8, number: u16, message: usize) -> u16 {
-    let place = place_of(field, number, message) % Session::PLACES;
-    t[place]
-}
-
-fn counts_with(counts: Counts, field: u8, value: u32) -> Counts {
-    let mut c = counts;
-    match field {
-        1 => c.received = value,
-        2 => c.spare = value,
-        3 => c.repaired = value,
-        _ => c.lost = value,
-    }
-    c
+    t[place_of(field, number, message) % Session::PLACES]
 }
 
 // The session after `lost` skips in all, given one that already keeps what that many skips leave: only base and counts are set.
 pub fn gone_on(session: Session, lost: u32) -> Session {
     let mut r = session;
     r.base = (lost % 65536) as u16;
-    let counts = counts_with(session.counts, 4, lost);
-    r.counts = counts;
+    r.counts.lost = lost;
     r
 }
 
@@ -74,31 +72,28 @@ pub fn gone_on(session: Session, lost: u32) -> Session {
 pub fn overwritten(session: Session, t: Target) -> Session {
     let mut r = session;
     let number = t.number;
-    let message = t.message as usize;
-    let octet = (t.octet as usize) % Packet::LIMIT;
+    let message = usize::from(t.message);
+    let octet = usize::from(t.octet) % Packet::LIMIT;
     let value = t.value;
-    let field = t.field;
-    if field == 0 {
-        r.base = (value % 65536) as u16;
-        return r;
+    match t.field {
+        BASE => r.base = (value % 65536) as u16,
+        RECEIVED => r.counts.received = value,
+        SPARE => r.counts.spare = value,
+        REPAIRED => r.counts.repaired = value,
+        LOST => r.counts.lost = value,
+        PACKET_OCTET => {
+            let at = usize::from(number) % Session::KEPT * Packet::LIMIT + octet;
+            r.octets[at] = (value % 256) as u8;
+        }
+        MESSAGE_OCTET => {
+            let at = message_slot(number, message) % Session::MESSAGES * Packet::LIMIT + octet;
+            r.messages[at] = (value % 256) as u8;
+        }
+        field => {
+            let place = place_of(field, number, message) % Session::PLACES;
+            r.table[place] = (value % 65536) as u16;
+        }
     }
-    if field < STATE {
-        let counts = counts_with(session.counts, field, value);
-        r.counts = counts;
-        return r;
-    }
-    if field == PACKET_OCTET {
-        let at = (number as usize) % Session::KEPT * Packet::LIMIT + octet;
-        r.octets[at] = (value % 256) as u8;
-        return r;
-    }
-    if field == MESSAGE_OCTET {
-        let at = message_slot(number, message) % Session::MESSAGES * Packet::LIMIT + octet;
-        r.messages[at] = (value % 256) as u8;
-        return r;
-    }
-    let place = place_of(field, number, message) % Session::PLACES;
-    r.table[place] = (value % 65536) as u16;
     r
 }
 
@@ -117,19 +112,19 @@ fn say_kept(out: &mut Out, t: &[u16; Session::PLACES], o: &[u8], number: u16) {
     let state = value_at(t, STATE, number, 0);
     say(out, (state % 256) as u32, 1);
     let note = value_at(t, NOTE, number, 0);
-    say(out, note as u32, 2);
-    let start = (number as usize) % Session::KEPT * Packet::LIMIT;
+    say(out, u32::from(note), 2);
+    let start = usize::from(number) % Session::KEPT * Packet::LIMIT;
     let size = value_at(t, SIZE, number, 0);
-    say_sized(out, o, start, size as usize);
+    say_sized(out, o, start, usize::from(size));
 }
 
 // Message i of a number, if it has more than i messages.
 fn say_message(out: &mut Out, t: &[u16; Session::PLACES], g: &[u8], number: u16, i: usize) {
     let m = value_at(t, M, number, 0);
-    if i < m as usize {
+    if i < usize::from(m) {
         let size = value_at(t, MESSAGE_SIZE, number, i);
         let start = message_slot(number, i) % Session::MESSAGES * Packet::LIMIT;
-        say_sized(out, g, start, size as usize);
+        say_sized(out, g, start, usize::from(size));
     }
 }
 
@@ -141,31 +136,26 @@ fn say_heard(out: &mut Out, t: &[u16; Session::PLACES], g: &[u8], number: u16) {
     say(out, (n % 256) as u32, 1);
     let m = value_at(t, M, number, 0);
     say(out, (m % 256) as u32, 1);
-    say_message(out, t, g, number, 0);
-    say_message(out, t, g, number, 1);
-    say_message(out, t, g, number, 2);
-    say_message(out, t, g, number, 3);
+    for i in 0..Parity::MESSAGES {
+        say_message(out, t, g, number, i);
+    }
 }
+
+// How many numbers are kept, and how many of them from the base on.
+const KEPT: u16 = Session::KEPT as u16;
+
+const HEARD: u16 = Session::HEARD as u16;
 
 // 15: the view, which is the 64 numbers in view, then the 32 from the base on (rule 25.20).
 pub fn say_view(out: &mut Out, session: Session) {
     let base = session.base;
-    let table = session.table;
-    let octets = session.octets;
-    let messages = session.messages;
-    say_done(out, base as usize, 2);
-    let mut number = std::num::wrapping_sub_u16(base, 32);
-    let mut left: usize = Session::KEPT;
-    while left > 0 {
-        say_kept(out, &table, &octets, number);
-        number = std::num::wrapping_add_u16(number, 1);
-        left -= 1;
+    say_done(out, usize::from(base), 2);
+    for i in 0..KEPT {
+        let number = base.wrapping_sub(32).wrapping_add(i);
+        say_kept(out, &session.table, &session.octets, number);
     }
-    number = base;
-    left = Session::HEARD;
-    while left > 0 {
-        say_heard(out, &table, &messages, number);
-        number = std::num::wrapping_add_u16(number, 1);
-        left -= 1;
+    for i in 0..HEARD {
+        let number = base.wrapping_add(i);
+        say_heard(out, &session.table, &session.messages, number);
     }
 }

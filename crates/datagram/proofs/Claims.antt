@@ -26,7 +26,7 @@ claims =
     record {
       written_reads = written_back;
       read_writes = read_back;
-      accepted_inside = λ s r number packet k count reads is. accepted-inside reads is;
+      accepted_inside = λ s r d reads is. accepted-inside reads is;
       one_outcome = one-outcome;
       cases = cases;
     }

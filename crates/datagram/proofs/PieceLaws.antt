@@ -11,6 +11,7 @@ use Rattle.length.specs.Answers.{done, LengthAnswer}
 use Rattle.length.specs.Length.{length_at, length_within}
 use Rattle.length.proofs.Laws.{from-done, bind_done, cond-past, cond-done, cond-kept, done-same, true-within, LengthInside, within-done}
 use Rattle.length.proofs.Laws.{allowed-done}
+use Rattle.length.specs.Refusals.{ends_early}
 use Rattle.datagram.specs.Sizes.{spares_least, spares_limit, covered_least, covered_limit, messages_least, messages_limit}
 use Rattle.datagram.specs.Write.{count_inside}
 use Rattle.datagram.specs.Read.{ExtraHead, after, length_from, octet_at, item_at, items_at, end_of, spares_at, parity_at, extra_at}
@@ -31,7 +32,7 @@ pub record Octet (least most : ℕ) (s : List ℕ) (at : ℕ) (l : LengthAnswer)
 pub octet-done : (least most : ℕ) (s : List ℕ) (at : ℕ) (l : LengthAnswer) → octet_at least most s at ≡ done l → Octet least most s at l
 unfolding octet_at
 octet-done least most s at l e =
-    let some = cond-done (leb (length s) at) 1 _ l (from-done at _ l e) in
+    let some = cond-done (leb (length s) at) ends_early _ l (from-done at _ l e) in
     let fits = allowed-done least most (record { value = get_or s at 0; size = 1 }) l some.1 in
     record {
       inside = leb-false (length s) at some.0;

@@ -1,5 +1,6 @@
 -- Laws of a datagram as it is read, and of the reader's answer: what a reading that is no refusal says of the octets. Assumes
 -- nothing.
+use Rattle.std.proofs.Common.{Result, Ok, Err}
 use Prim.Native.Nat.{ℕ, ◌+◌, ◌-◌, ◌*◌, ◌≤◌, ◌<◌}
 use mathlib.Core.Path.{◌≡◌, refl, sym, ap, ◌∙◌}
 use mathlib.Core.List.{List}
@@ -20,7 +21,6 @@ use Rattle.datagram.specs.Read.{whole_of, read_datagram}
 use Rattle.datagram.specs.Promise.{DatagramReads, datagram_read, read_outcome, padded_parts, nowhere}
 use Rattle.datagram.specs.Claims.{Inside}
 use Rattle.datagram.specs.declared.reader.Part.{Part}
-use Rattle.datagram.specs.declared.reader.Reading.TheVariants as reading
 use Rattle.datagram.specs.declared.reader.DatagramRead.{DatagramRead}
 use Rattle.datagram.specs.declared.kind.Kind.{Kind}
 use Rattle.datagram.proofs.PieceLaws.{item-done, items-done, items-each, extra-done}
@@ -102,28 +102,29 @@ number_small s d octets e = omega (arith, (read_done s d e).number, octets 0, oc
 
 -- ---- the reader's answer, in the words of a caller that has taken it apart
 
-module _ {s : List ℕ} {r : DatagramRead} (reads : DatagramReads s r) where
-  pub refused-read : {why : Refusal} → r.reading ≡ reading.Refused why → read_datagram s ≡ refused why
+module _ {s : List ℕ} {r : Result DatagramRead Refusal} (reads : DatagramReads s r) where
+  pub refused-read : {why : Refusal} → r ≡ Err why → read_datagram s ≡ refused why
   refused-read {why} is = sym (rw is at reads.answer)
 
-  module _ {number : ℕ} {packet : Part} {k : Kind} {count : ℕ} (is : r.reading ≡ reading.Datagram number packet k count) where
-    pub accepted-read : read_datagram s ≡ done (record { number = number; packet = packet; kind = k; items = take count r.items })
+  module _ {d : DatagramRead} (is : r ≡ Ok d) where
+    pub accepted-read : read_datagram s
+        ≡ done (record { number = d.number; packet = d.packet; kind = d.kind; items = take d.count d.items })
     accepted-read = sym (rw is at reads.answer)
 
-    pub accepted-count : length (take count r.items) ≡ count
+    pub accepted-count : length (take d.count d.items) ≡ d.count
     unfolding datagram_read
     accepted-count =
-        let told : r.reading ≡ reading.Datagram number packet k (length (take count r.items)) =
-        ap (λ (q : DatagramRead). q.reading) (reads.whole ∙ ap datagram_read accepted-read) in
+        let told : Ok d ≡ datagram_read (done (record { number = d.number; packet = d.packet; kind = d.kind; items = take d.count d.items })) =
+        sym is ∙ reads.whole ∙ ap datagram_read accepted-read in
         cc
 
-    pub accepted-inside : Inside s packet k count r.items
+    pub accepted-inside : Inside s d.packet d.kind d.count d.items
     accepted-inside =
         let so = read-inside s _ accepted-read in
         record {
           newest = so.newest;
           counted = rw accepted-count at so.counted;
-          each = λ j more. rw (get_or-take count r.items j nowhere more) at (so.each j (rw accepted-count more));
+          each = λ j more. rw (get_or-take d.count d.items j nowhere more) at (so.each j (rw accepted-count more));
         }
 
 -- ---- what makes a reading

@@ -1,15 +1,15 @@
 -- Small datagrams, read and written: at a limit, or where a mistake would look right. Each case gives the one right answer, in octets and
 -- numbers. Definitions only.
-use Rattle.std.specs.Prelude.{ℕ, ◌≡◌, true, false, List, [], ◌∷◌, ◌++◌, map, replicate}
+use Rattle.std.specs.Prelude.{ℕ, ◌≡◌, true, false, List, [], ◌∷◌, ◌++◌, map, replicate, Ok, Err}
 use Rattle.length.specs.Answers.{Answer, done, is_done}
 use Rattle.length.specs.Cases.{placed}
+use Rattle.length.specs.Refusals.{numbered}
 use Rattle.datagram.specs.Carried.{spares, parity}
 use Rattle.datagram.specs.Write.{datagram_to_write}
 use Rattle.datagram.specs.Inner.Heads.{spares_head, parity_head, items_size, datagram_size, n_fits}
 use Rattle.datagram.specs.Read.{DatagramParts, read_datagram, carried_by}
 use Rattle.datagram.specs.Promise.{datagram_read}
 use Rattle.datagram.specs.declared.reader.Part.{Part}
-use Rattle.datagram.specs.declared.reader.Reading.TheVariants as reading
 use Rattle.datagram.specs.declared.kind.Kind.{Kind}
 use Rattle.datagram.specs.declared.kind.Kind.TheVariants as kind
 
@@ -78,11 +78,17 @@ pub record ReadCases : Type 0 where
   pub carried-parity : carried_by (0x01 ∷ 0x00 ∷ 0x01 ∷ 0x06 ∷ 0x80 ∷ 0x01 ∷ 0x02 ∷ 0x01 ∷ 0x02 ∷ 0xBB ∷ 0xCC ∷ [])
       (record { number = 256; packet = part 3 1; kind = kind.Parity 2; items = part 9 2 ∷ [] })
       ≡ record { number = 256; packet = 0x06 ∷ []; extra = parity 2 ((0xBB ∷ 0xCC ∷ []) ∷ []) }
-  -- rule 4.23: unused places are zero, and all are if the datagram is refused
+  -- rule 4.23: unused places are zero; a refused datagram has none
   pub unused : datagram_read (reads (0x00 ∷ 0x02 ∷ 0x01 ∷ 0xAA ∷ 0x01 ∷ 0xBB ∷ []))
-      ≡ record { reading = reading.Datagram 256 (part 3 1) kind.Spares 2; items = part 7 1 ∷ part 9 1 ∷ replicate 6 (part 0 0) }
+      ≡ Ok (record {
+        number = 256;
+        packet = part 3 1;
+        kind = kind.Spares;
+        count = 2;
+        items = part 7 1 ∷ part 9 1 ∷ replicate 6 (part 0 0);
+      })
   pub all-unused : datagram_read (read_datagram (0x00 ∷ []))
-      ≡ record { reading = reading.Refused (record { number = 1; place = 0 }); items = replicate 8 (part 0 0) }
+      ≡ Err (record { reason = numbered 1; place = 0 })
 
 -- rule 2.27: the place is the octet at which the refused item begins, where the datagram ends too early or goes on too long
 pub record PlaceCases : Type 0 where

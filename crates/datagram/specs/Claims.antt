@@ -1,6 +1,6 @@
 -- The claims of this crate: round trips (rules 4.20 and 4.21), the sizes of an accepted datagram's parts, and one outcome; and the
 -- definitions that they use. Definitions only.
-use Rattle.std.specs.Prelude.{ℕ, ◌+◌, ◌≤◌, ◌<◌, ◌≡◌, true, length, get_or}
+use Rattle.std.specs.Prelude.{ℕ, ◌+◌, ◌≤◌, ◌<◌, ◌≡◌, true, length, get_or, Result, Ok}
 use mathlib.Core.List.{List, [], ◌∷◌, map, flatten}
 use Rattle.length.specs.Refusals.{ends_early, bad_form, spare_bit, left_over}
 use Rattle.length.specs.Answers.{done, refuse_at}
@@ -11,7 +11,7 @@ use Rattle.datagram.specs.Write.{count_inside, carried_of, datagram_to_write}
 use Rattle.datagram.specs.Read.{DatagramParts, least_of, most_of, octets_of, read_datagram, carried_by}
 use Rattle.datagram.specs.Promise.{DatagramReads, nowhere}
 use Rattle.datagram.specs.declared.reader.Part.{Part}
-use Rattle.datagram.specs.declared.reader.Reading.TheVariants as reading
+use Rattle.length.specs.declared.Refusal.{Refusal}
 use Rattle.datagram.specs.declared.reader.DatagramRead.{DatagramRead}
 use Rattle.datagram.specs.declared.kind.Kind.{Kind}
 
@@ -56,14 +56,14 @@ pub record Inside (octets : List ℕ) (packet : Part) (k : Kind) (count : ℕ) (
   pub each : (j : ℕ) → j < count → PartInside (least_of k) (most_of k) octets (get_or items j nowhere)
 
 abbrev pub AcceptedInside : Type 0
-AcceptedInside = (octets : List ℕ) (r : DatagramRead) (number : ℕ) (packet : Part) (k : Kind) (count : ℕ) → DatagramReads octets r
-    → r.reading ≡ reading.Datagram number packet k count → Inside octets packet k count r.items
+AcceptedInside = (octets : List ℕ) (r : Result DatagramRead Refusal) (d : DatagramRead) → DatagramReads octets r → r ≡ Ok d
+    → Inside octets d.packet d.kind d.count d.items
 
 -- ---- one outcome
 
 -- two outcomes that a promise allows are equal (rule 28.14)
 pub record OneOutcome : Type 0 where
-  pub read : {octets : List ℕ} {r q : DatagramRead} → DatagramReads octets r → DatagramReads octets q → r ≡ q
+  pub read : {octets : List ℕ} {r q : Result DatagramRead Refusal} → DatagramReads octets r → DatagramReads octets q → r ≡ q
 
 -- ---- cases in which a mistake would look right
 

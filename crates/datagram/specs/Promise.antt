@@ -1,22 +1,17 @@
 -- What the datagram reader promises, as the record that its contract cites (rule 4.23), and the number and values of each case of its
 -- answer (rule 30.10). What the datagram writer promises is `Puts` of `length`, over `datagram_to_write`. Definitions only.
-use Rattle.std.specs.Prelude.{ℕ, ◌-◌, ◌≡◌, List, [], ◌++◌, length, take, replicate}
+use Rattle.std.specs.Prelude.{ℕ, ◌-◌, ◌≡◌, List, [], ◌++◌, length, take, replicate, Result, Ok, Err}
 use Rattle.length.specs.Answers.{Answer, done, refused}
+use Rattle.length.specs.declared.Refusal.{Refusal}
 use Rattle.datagram.specs.Sizes.{spares_limit}
 use Rattle.datagram.specs.Read.{DatagramParts, read_datagram}
 use Rattle.datagram.specs.declared.reader.Part.{Part}
-use Rattle.datagram.specs.declared.reader.Reading.{Reading}
-use Rattle.datagram.specs.declared.reader.Reading.TheVariants as reading
 use Rattle.datagram.specs.declared.reader.DatagramRead.{DatagramRead}
 
 -- each case of the datagram reader's answer, as the rules' number and values (rule 30.10)
-abbrev pub datagram_outcome : Reading → List Part → Answer DatagramParts
-datagram_outcome (reading.Datagram number packet kind count) items =
-    done (record { number = number; packet = packet; kind = kind; items = take count items })
-datagram_outcome (reading.Refused r) items = refused r
-
-abbrev pub read_outcome : DatagramRead → Answer DatagramParts
-read_outcome r = datagram_outcome r.reading r.items
+abbrev pub read_outcome : Result DatagramRead Refusal → Answer DatagramParts
+read_outcome (Ok d) = done (record { number = d.number; packet = d.packet; kind = d.kind; items = take d.count d.items })
+read_outcome (Err r) = refused r
 
 -- the empty part, which fills the array past the count (rule 4.23)
 abbrev pub nowhere : Part
@@ -26,15 +21,18 @@ unfoldable pub padded_parts : List Part → List Part
 padded_parts ps = ps ++ replicate (spares_limit - length ps) nowhere
 
 -- the whole answer, with the unused elements of the array
-unfoldable pub datagram_read : Answer DatagramParts → DatagramRead
+unfoldable pub datagram_read : Answer DatagramParts → Result DatagramRead Refusal
 datagram_read (done d) =
-    record {
-      reading = reading.Datagram d.number d.packet d.kind (length d.items);
+    Ok (record {
+      number = d.number;
+      packet = d.packet;
+      kind = d.kind;
+      count = length d.items;
       items = padded_parts d.items;
-    }
-datagram_read (refused r) = record { reading = reading.Refused r; items = padded_parts [] }
+    })
+datagram_read (refused r) = Err r
 
 -- what `datagram_reader::read` promises for `octets`: its answer, and the whole value that it returns
-pub record DatagramReads (octets : List ℕ) (r : DatagramRead) : Type 0 where
+pub record DatagramReads (octets : List ℕ) (r : Result DatagramRead Refusal) : Type 0 where
   pub answer : read_outcome r ≡ read_datagram octets
   pub whole : r ≡ datagram_read (read_datagram octets)

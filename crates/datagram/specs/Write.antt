@@ -6,6 +6,7 @@ use Rattle.length.specs.Refusals.{outside_sizes, wrong_settings}
 use Rattle.length.specs.Answers.{Answer}
 use Rattle.length.specs.Tables.{when, unless}
 use Rattle.length.specs.Length.{within, length_octets}
+use Rattle.length.specs.declared.Reason.{Reason}
 use Rattle.datagram.specs.Sizes.{packet_least, packet_limit, message_least, message_limit, spares_limit, covered_least, covered_limit}
 use Rattle.datagram.specs.Sizes.{messages_least, messages_limit}
 use Rattle.datagram.specs.Carried.{Extra, spares, parity, Carried}
@@ -82,7 +83,7 @@ lengths_inside packet kind lengths = within packet_least packet_limit (length pa
 
 -- what the datagram writer refuses, in order: 4 for n or a count, 15 for the sum, 4 for a length (rule 4.17); then what it writes if no
 -- row applies
-abbrev pub datagram_writer_rows : List ℕ → Kind → List ℕ → List ℕ → List (Option ℕ)
+abbrev pub datagram_writer_rows : List ℕ → Kind → List ℕ → List ℕ → List (Option Reason)
 datagram_writer_rows packet kind lengths run =
     when (not (count_inside kind (length lengths))) outside_sizes
     ∷ when (not (eqb (sum_of lengths) (length run))) wrong_settings

@@ -7,5 +7,5 @@ mod rules;
 
 pub use datagram_sizes::{Datagram, Message, Packet, Parity, Spares};
 pub use kind::Kind;
-pub use reader::{DatagramRead, Part, Reading};
+pub use reader::{DatagramRead, Part};
 pub use rules::count_inside;

@@ -1,5 +1,6 @@
 -- One turn of the loop over a datagram's spares or messages, on plain values. The invariant: what is left to read, put behind
 -- what was read, is the whole; the places hold what was read, and the rest of them are unused. Assumes nothing.
+use Rattle.std.proofs.Common.{Result, Ok, Err}
 use Prim.Native.Nat.{ℕ, suc, ◌+◌, ◌-◌, ◌≤◌, ◌<◌}
 use mathlib.Core.Path.{◌≡◌, refl, sym, ap, ◌∙◌}
 use mathlib.Core.List.{List, [], ◌∷◌, ◌++◌, append-nil}
@@ -13,8 +14,6 @@ use Rattle.datagram.specs.Read.{after, item_at, items_at, end_of}
 use Rattle.datagram.specs.Promise.{padded_parts, nowhere}
 use Rattle.datagram_reader.specs.Pieces.{ItemRead, ItemsBegin}
 use Rattle.datagram.specs.declared.reader.Part.{Part}
-use Rattle.datagram_reader.specs.declared.reader.Item.{Item}
-use Rattle.datagram_reader.specs.declared.reader.Item.TheVariants as item
 use Rattle.datagram.proofs.Laws.{item-done}
 
 -- what was read before, in front of what is left to read
@@ -87,7 +86,7 @@ module _ {least most : ℕ} {s : List ℕ} {count first : ℕ} where
       }
 
   module _ {items : List Part} {at i : ℕ} (so : Turning least most s count first items at i) where
-    pub turn-again : {r : Item} {p : Part} → i < count → ItemRead least most s at r → r ≡ item.Found p
+    pub turn-again : {r : Result Part Refusal} {p : Part} → i < count → ItemRead least most s at r → r ≡ Ok p
         → Turning least most s count first (set items i p) (p.start + p.size) (i + 1)
     turn-again {r} {p} more read is =
         let e : done p ≡ item_at least most s at = rw is at read.answer in
@@ -110,7 +109,7 @@ module _ {least most : ℕ} {s : List ℕ} {count first : ℕ} where
         }
 
     -- a refused item refuses all
-    pub turn-refused : {r : Item} {why : Refusal} → i < count → ItemRead least most s at r → r ≡ item.Refused why
+    pub turn-refused : {r : Result Part Refusal} {why : Refusal} → i < count → ItemRead least most s at r → r ≡ Err why
         → items_at least most s first count ≡ refused why
     unfolding prefixed
     turn-refused {r} {why} more read is =

@@ -1,7 +1,7 @@
 -- The loop that writes spares or messages, and the size that it takes: what is left to write, after what is written, gives
 -- the whole. Assumes nothing.
 use Prim.Native.Nat.{ℕ, ◌+◌, ◌-◌, ◌≤◌, ◌<◌}
-use mathlib.Core.Path.{◌≡◌, refl, sym, ap, ◌∙◌}
+use mathlib.Core.Path.{◌≡◌, sym, ap, ◌∙◌}
 use mathlib.Core.List.{List, [], ◌++◌, append_assoc, append-nil}
 use lib.ListN.{length, get_or, take, drop, drop_of_length-le, length-drop}
 use lib.Seq.{drop-cons, drop-drop, length-take-le}
@@ -10,7 +10,7 @@ use native.Mathlib.Omega.{arith}
 use borrow.Rule.Slice.PartMut.{mid_of, put_mid}
 use Rattle.length.specs.Length.{length_limit}
 use Rattle.length.specs.Promise.{Put}
-use Rattle.length.proofs.Laws.{put-none, put_next, put-long, room-left}
+use Rattle.length.proofs.Laws.{put_next, put-long, room-left}
 use Rattle.datagram.specs.Write.{item_octets, items_octets, cut, sum_of}
 use Rattle.datagram.specs.Inner.Heads.{item_size, items_size}
 use Rattle.datagram.proofs.Laws.{sum-next, size-next, item-length}
@@ -57,18 +57,6 @@ item-asked {run} {new} {from} {at} {n} t small =
     rw t.size (omega arith, room-left new at (item_size n) t.fits)
 
 module _ {lengths run old : List ℕ} where
-  pub going_start : sum_of lengths ≡ length run → items_size lengths ≤ length old → Going lengths run old old 0 0 0
-  going_start sum room =
-      record {
-        bound = omega arith;
-        long = refl;
-        owed = omega arith;
-        room = omega arith;
-        front = [];
-        put = put-none;
-        left = refl;
-      }
-
   pub turning : {new : List ℕ} {i from at n : ℕ} → Going lengths run old new i from at → i < length lengths
       → n ≡ get_or lengths i 0 → Turn run new from at n
   turning {new} {i} {from} {at} {n} v more e =
@@ -108,4 +96,4 @@ module _ {lengths run old : List ℕ} where
       rw same at v.put
 
 -- the loop of `put_items`
-pub ruleset goings = (going_start, going-turn, going_done)
+pub ruleset goings = (going-turn, going_done)

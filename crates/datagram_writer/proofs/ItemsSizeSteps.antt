@@ -8,23 +8,15 @@ use native.Mathlib.Omega.{arith}
 use Rattle.length.specs.Length.{length_limit}
 use Rattle.length.proofs.Laws.{length_octets-one, length_octets-two}
 use Rattle.datagram.specs.Write.{sum_of}
-use Rattle.datagram.specs.Inner.Heads.{LengthSize, kind_head, item_size, items_size}
-use Rattle.datagram.specs.declared.kind.Kind.{Kind}
-use Rattle.datagram.specs.declared.kind.Kind.TheVariants as kind
+use Rattle.datagram.specs.Inner.Heads.{LengthSize, item_size, items_size}
 use Rattle.datagram.proofs.Laws.{sum-next, size-next, items-bound}
 
--- ---- length_size, kind_size
+-- ---- length_size
 pub length-one : {n : ℕ} → n < 128 → LengthSize n 1
 length-one {n} small = record { answer = rw (length_octets-one n small); small = omega arith }
 
 pub length_two : {n : ℕ} → 128 ≤ n → LengthSize n 2
 length_two {n} large = record { answer = rw (length_octets-two n large); small = omega arith }
-
-pub spares-size : (k : Kind) {count size : ℕ} → k ≡ kind.Spares → LengthSize count size → size + 1 ≡ length (kind_head k count)
-spares-size k e s = rw e (omega arith)
-
-pub parity-size : (k : Kind) {p count size : ℕ} → k ≡ kind.Parity p → LengthSize count size → size + 3 ≡ length (kind_head k count)
-parity-size k e s = rw e (omega arith)
 
 -- ---- items_size
 -- before a turn: the lengths before place i are counted
@@ -68,4 +60,4 @@ module _ {lengths : List ℕ} where
   sizing-done {size} {i} v end = let none = sizes-none lengths i end in omega arith
 
 -- the sizes' answers
-pub ruleset sizes = (length-one, length_two, spares-size, parity-size, sizing-start, sizing-turn, sizing-done)
+pub ruleset sizes = (length-one, length_two, sizing-start, sizing-turn, sizing-done)

@@ -1,3 +1,4 @@
+mod Copying
 mod PutSteps
 mod ItemSteps
 mod ItemsSizeSteps

@@ -1,4 +1,5 @@
 -- `put_datagram`, `write_allowed` and `write`, in the words of the code: one law for each answer. Assumes nothing.
+use Rattle.std.proofs.Common.{Result, Err}
 use Prim.Native.Nat.{ℕ, ◌+◌, ◌-◌, ◌≤◌, ◌<◌}
 use mathlib.Core.Path.{◌≡◌, sym, ◌∙◌}
 use mathlib.Core.Bool.{Bool, true, false, not}
@@ -14,9 +15,7 @@ use Rattle.length.specs.Tables.{unless}
 use Rattle.length.specs.Length.{length_limit}
 use Rattle.length.specs.Promise.{Puts, RefusalMade, Put}
 use Rattle.length.specs.declared.Refusal.{Refusal}
-use Rattle.length.specs.declared.Written.{Written}
-use Rattle.length.specs.declared.Written.TheVariants as written
-use Rattle.length.proofs.Laws.{both, put_next, put-long, put-puts, full-puts, room-left}
+use Rattle.length.proofs.Laws.{both, put_next, put-long, full-puts, room-left}
 use Rattle.datagram.specs.Write.{items_octets, datagram_octets, datagram_to_write, carried_of, cut, sum_of}
 use Rattle.datagram.specs.Write.{count_inside, lengths_inside}
 use Rattle.datagram.specs.Inner.Heads.{Bounded, FrontAsked, front_octets, items_size, datagram_size}
@@ -50,14 +49,14 @@ module _ (number : ℕ) (packet : List ℕ) (k : Kind) (lengths run : List ℕ) 
   -- ---- write_allowed
   pub allowed-full : {old : List ℕ} {size : ℕ} {r : Refusal} → RefusalMade no_room r → Bounded packet k lengths run
       → size ≡ datagram_size number packet k lengths → length old < size
-      → Puts (done (datagram_octets (carried_of number packet k lengths run))) old old (written.Refused r)
+      → Puts (done (datagram_octets (carried_of number packet k lengths run))) old old (Err r)
   allowed-full made b e full =
       let long = datagram-length number packet k lengths run (omega arith) in
       full-puts made (omega arith)
 
   -- ---- write
   pub write-uncounted : {old : List ℕ} {b : Bool} {r : Refusal} → RefusalMade outside_sizes r → b ≡ count_inside k (length lengths)
-      → not b ≡ true → Puts (datagram_to_write number packet k lengths run) old old (written.Refused r)
+      → not b ≡ true → Puts (datagram_to_write number packet k lengths run) old old (Err r)
   unfolding datagram_to_write unless
   write-uncounted made found out =
       let count : count_inside k (length lengths) ≡ false = sym found ∙ not-true _ out in
@@ -65,7 +64,7 @@ module _ (number : ℕ) (packet : List ℕ) (k : Kind) (lengths run : List ℕ) 
 
   pub write-unsummed : {old : List ℕ} {b d : Bool} {r : Refusal} → RefusalMade wrong_settings r → b ≡ count_inside k (length lengths)
       → not b ≡ false → d ≡ eqb (sum_of lengths) (length run) → not d ≡ true
-      → Puts (datagram_to_write number packet k lengths run) old old (written.Refused r)
+      → Puts (datagram_to_write number packet k lengths run) old old (Err r)
   unfolding datagram_to_write unless
   write-unsummed made found in' told out =
       let count : count_inside k (length lengths) ≡ true = sym found ∙ not-false _ in' in
@@ -74,7 +73,7 @@ module _ (number : ℕ) (packet : List ℕ) (k : Kind) (lengths run : List ℕ) 
 
   pub write-unsized : {old : List ℕ} {b d f : Bool} {r : Refusal} → RefusalMade outside_sizes r → b ≡ count_inside k (length lengths)
       → not b ≡ false → d ≡ eqb (sum_of lengths) (length run) → not d ≡ false → f ≡ lengths_inside packet k lengths → not f ≡ true
-      → Puts (datagram_to_write number packet k lengths run) old old (written.Refused r)
+      → Puts (datagram_to_write number packet k lengths run) old old (Err r)
   unfolding datagram_to_write unless
   write-unsized made found in' told in'' sized out =
       let count : count_inside k (length lengths) ≡ true = sym found ∙ not-false _ in' in
@@ -93,7 +92,7 @@ module _ (number : ℕ) (packet : List ℕ) (k : Kind) (lengths run : List ℕ) 
         items = s.1;
       }
 
-  pub write-passed : {old new : List ℕ} {r : Written} → Allowed packet k lengths run
+  pub write-passed : {old new : List ℕ} {r : Result ℕ Refusal} → Allowed packet k lengths run
       → Puts (done (datagram_octets (carried_of number packet k lengths run))) old new r
       → Puts (datagram_to_write number packet k lengths run) old new r
   write-passed a p = rw (allowed-written number a) p
@@ -102,7 +101,6 @@ module _ (number : ℕ) (packet : List ℕ) (k : Kind) (lengths run : List ℕ) 
 pub ruleset writes = (
   front-asked,
   datagram-put,
-  put-puts,
   allowed-full,
   write-uncounted,
   write-unsummed,

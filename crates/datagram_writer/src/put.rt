@@ -8,8 +8,7 @@ ghost use Rattle.datagram.specs.Inner.Heads.{LengthSize, KindFits, FrontAsked, s
 ghost use Rattle.datagram.specs.Inner.Heads.{items_size};
 
 use datagram::Kind;
-use length::{Length, Written};
-use octets::wide;
+use length::Length;
 
 // ---- the writers
 
@@ -18,12 +17,11 @@ pub fn put_octets(octets: &[u8], out: &mut [u8]) -> usize
     requires { length octets.now ≤ length out.old }
     ensures { Put octets.now out.old out.new result }
 {
-    let mut i = 0;
-    while i < octets.len() {
+    // A loop, since the archive for C calls memcpy and memset alone, and the library's copy is a memmove.
+    for i in 0..octets.len() {
         out[i] = octets[i];
-        i += 1;
     }
-    i
+    octets.len()
 }
 
 // A length or count (rules 3.1 and 3.2). The length writer never refuses here: the length is not over 16,383, and there is room.
@@ -33,8 +31,8 @@ pub fn put_length(n: usize, out: &mut [u8]) -> usize
 {
     let written = length_code::write(n, out);
     match written {
-        Written::Octets(size) => size,
-        Written::Refused(_) => 0,
+        Ok(size) => size,
+        Err(_) => 0,
     }
 }
 
@@ -120,16 +118,14 @@ pub fn put_items(lengths: &[u16], data: &[u8], out: &mut [u8]) -> usize
         (items_size lengths.now ≤ length out.old) }
     ensures { Put (items_octets (cut lengths.now «data».now)) out.old out.new result }
 {
-    let mut i = 0;
     let mut from = 0;
     let mut at = 0;
-    while i < lengths.len() {
-        let to = from + wide(lengths[i]);
+    for length in lengths {
+        let to = from + usize::from(*length);
         let item = &data[from..to];
         let size = put_item(item, &mut out[at..]);
         from = to;
         at += size;
-        i += 1;
     }
     at
 }
@@ -140,10 +136,7 @@ pub fn put_items(lengths: &[u16], data: &[u8], out: &mut [u8]) -> usize
 pub fn length_size(n: usize) -> usize
     ensures { LengthSize n result }
 {
-    if n < Length::TWO_FROM {
-        return 1;
-    }
-    2
+    if n < Length::TWO_FROM { 1 } else { 2 }
 }
 
 // An item of n octets, with its length.
@@ -172,10 +165,8 @@ pub fn items_size(lengths: &[u16]) -> usize
     ensures { result ≡ items_size lengths.now }
 {
     let mut size = 0;
-    let mut i = 0;
-    while i < lengths.len() {
-        size += item_size(wide(lengths[i]));
-        i += 1;
+    for length in lengths {
+        size += item_size(usize::from(*length));
     }
     size
 }

@@ -10,8 +10,7 @@ ghost use Rattle.datagram_writer.specs.Promise.{DatagramWritten};
 
 use crate::put::{item_size, items_size, kind_size, put_front, put_items};
 use datagram::{Kind, Message, Packet, count_inside};
-use length::{Refusal, Written, within};
-use octets::wide;
+use length::{Reason, Refusal, within};
 
 // ---- what is refused
 
@@ -29,24 +28,16 @@ fn item_inside(kind: Kind, n: usize) -> bool
 fn items_inside(kind: Kind, lengths: &[u16]) -> bool
     ensures { result ≡ items_inside kind lengths.now }
 {
-    let mut i = 0;
-    while i < lengths.len() {
-        if !item_inside(kind, wide(lengths[i])) {
-            return false;
-        }
-        i += 1;
-    }
-    true
+    lengths
+        .iter()
+        .all(|&length| item_inside(kind, usize::from(length)))
 }
 
 // Every length is inside the sizes: the newest packet's (rule 4.18), then those of the spares or messages.
 fn lengths_inside(packet: &[u8], kind: Kind, lengths: &[u16]) -> bool
     ensures { result ≡ lengths_inside packet.now kind lengths.now }
 {
-    if !within(Packet::LEAST, Packet::LIMIT, packet.len()) {
-        return false;
-    }
-    items_inside(kind, lengths)
+    within(Packet::LEAST, Packet::LIMIT, packet.len()) && items_inside(kind, lengths)
 }
 
 // The lengths sum to the total. The loop subtracts them from the total, so nothing wraps (rule 2.34).
@@ -54,14 +45,12 @@ fn sums_to(lengths: &[u16], total: usize) -> bool
     ensures { result ≡ eqb (sum_of lengths.now) total }
 {
     let mut left = total;
-    let mut i = 0;
-    while i < lengths.len() {
-        let n = wide(lengths[i]);
+    for length in lengths {
+        let n = usize::from(*length);
         if left < n {
             return false;
         }
         left -= n;
-        i += 1;
     }
     left == 0
 }
@@ -108,17 +97,17 @@ fn write_allowed(
     lengths: &[u16],
     data: &[u8],
     out: &mut [u8],
-) -> Written
+) -> Result<usize, Refusal>
     requires { Bounded packet.now kind lengths.now «data».now }
     ensures { Puts (done (datagram_octets (carried_of number packet.now kind lengths.now
         «data».now))) out.old out.new result }
 {
     let size = datagram_size(number, packet, kind, lengths);
     if out.len() < size {
-        return Written::Refused(Refusal::new(Refusal::NO_ROOM));
+        return Err(Refusal::new(Reason::NoRoom));
     }
     let written = put_datagram(number, packet, kind, lengths, data, out);
-    Written::Octets(written)
+    Ok(written)
 }
 
 // A datagram of the number, the newest packet, and spares or messages, given as their lengths and one run of data (rule 4.17). A refusal
@@ -130,7 +119,7 @@ pub fn write(
     lengths: &[u16],
     data: &[u8],
     out: &mut [u8],
-) -> Written
+) -> Result<usize, Refusal>
     ensures { DatagramWritten number packet.now kind lengths.now «data».now
         out.old out.new result }
 {
@@ -138,13 +127,13 @@ pub fn write(
     let summed = sums_to(lengths, data.len());
     let sized = lengths_inside(packet, kind, lengths);
     if !counted {
-        return Written::Refused(Refusal::new(Refusal::OUTSIDE_SIZES));
+        return Err(Refusal::new(Reason::OutsideSizes));
     }
     if !summed {
-        return Written::Refused(Refusal::new(Refusal::WRONG_SETTINGS));
+        return Err(Refusal::new(Reason::WrongSettings));
     }
     if !sized {
-        return Written::Refused(Refusal::new(Refusal::OUTSIDE_SIZES));
+        return Err(Refusal::new(Reason::OutsideSizes));
     }
     write_allowed(number, packet, kind, lengths, data, out)
 }

@@ -1,16 +1,15 @@
--- An offer of octets that read to the same parts reaches the same places: of a datagram only its number, how many spares it carries, and the
--- members and lengths of its messages count. Assumes nothing.
+-- An offer of octets that read to the same parts reaches the same places: of a datagram only its number, how many spares it carries, and
+-- the members and lengths of its messages count. Assumes nothing.
+use Rattle.std.proofs.Common.{Result, Ok, Err}
+use Rattle.length.specs.declared.Refusal.{Refusal}
 use Prim.Native.Nat.{ℕ, ◌-◌, ◌%◌, ◌≤◌, ◌<◌, min}
 use mathlib.Core.Path.{◌≡◌, refl, sym, ap, ap₂, subst, ◌∙◌}
-use mathlib.Core.Bool.{true, false}
 use mathlib.Core.List.{List, [], ◌∷◌, map, Memᴰ as Among}
 use mathlib.Core.Option.{Option, some, none}
 use lib.ListN.{length, get_or, drop, length-take, length-drop, length-map, get_or-map}
 use native.Mathlib.Omega.{arith}
 use Rattle.length.specs.Answers.{done}
-use Rattle.length.proofs.Laws.{done-same}
-use Rattle.datagram.specs.Carried.{Carried, Extra}
-use Rattle.datagram.specs.Claims.{ReadsAs}
+use Rattle.datagram.specs.Carried.{Carried}
 use Rattle.datagram.specs.Read.{DatagramParts, octets_of, read_datagram, carried_by}
 use Rattle.datagram.specs.declared.reader.Part.{Part}
 use Rattle.datagram.specs.declared.kind.Kind.{Kind}
@@ -21,8 +20,6 @@ use Rattle.session.specs.Held.{message_at}
 use Rattle.session.specs.Repair.{Message}
 use Rattle.session.specs.View.{numbers}
 use Rattle.session.specs.Offer.{held_by}
-use Rattle.session_offer.specs.declared.Offered.{Offered}
-use Rattle.session_offer.specs.declared.Offered.TheVariants as answer
 use Rattle.demands.specs.Common.Calls.{Calls, offer, ◌then◌, accepted_in, left_by}
 use Rattle.demands.specs.Demand2.ReachedBy.{spares_in, Accepts, Arrived, now, before, HeldBy, ReachedBy, before_first, packet, spare}
 use Rattle.demands.specs.Demand2.ReachedBy.{repaired, together, earlier}
@@ -63,16 +60,17 @@ sizes-at xs ys same i = sym (size-at xs i) ∙ ap (λ (l : List ℕ). get_or l i
   size-at zs i = get_or-map (λ (l : List ℕ). length l) zs i []
 
 -- ---- the same octets but inside packets, offered with the same answer
-module _ (calls : Calls) (s t : List ℕ) (r : Offered) (reads : read_datagram s ≡ read_datagram t) (long : length s ≡ length t) where
+module _ (calls : Calls) (s t : List ℕ) (r : Result (Unit {0}) Refusal) (reads : read_datagram s ≡ read_datagram t) (long : length s ≡ length t) where
   -- what such an offer carries
   accepted-other : {octets : List ℕ} → accepted_in (offer s r) ≡ some octets → (octets ≡ s) × (accepted_in (offer t r) ≡ some t)
   accepted-other e = by r e where
-    by : (x : Offered) {octets : List ℕ} → accepted_in (offer s x) ≡ some octets → (octets ≡ s) × (accepted_in (offer t x) ≡ some t)
-    by answer.Accepted e = (ap (λ (o : Option (List ℕ)). from o) (sym e), refl) where
+    by : (x : Result (Unit {0}) Refusal) {octets : List ℕ} → accepted_in (offer s x) ≡ some octets
+        → (octets ≡ s) × (accepted_in (offer t x) ≡ some t)
+    by (Ok x) e = (ap (λ (o : Option (List ℕ)). from o) (sym e), refl) where
       from : Option (List ℕ) → List ℕ
       from (some l) = l
       from none = []
-    by (answer.Refused why) e = let z : ◌≡◌ {A = ℕ} 0 1 = cc in absurd (omega arith)
+    by (Err why) e = let z : ◌≡◌ {A = ℕ} 0 1 = cc in absurd (omega arith)
 
   pub record Other (S : ℕ) (c : Carried) : Type 0 where
     pub datagram : Carried

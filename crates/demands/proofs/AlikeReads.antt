@@ -13,8 +13,9 @@ use Rattle.length.specs.Answers.{Answer, done, refused, LengthAnswer}
 use Rattle.length.specs.Length.{length_at, length_octets, length_limit, within}
 use Rattle.length.proofs.Claims as lengths
 use Rattle.length.proofs.Laws.{bind_done, done-same, both, within-true, within-written, allowed-sizes, cond-past, cond-kept}
-use Rattle.datagram.specs.Sizes.{packet_least, packet_limit, spares_least, spares_limit, covered_least, covered_limit, messages_least, messages_limit}
-use Rattle.datagram.specs.Read.{DatagramParts, ExtraHead, after, length_from, octet_at, item_at, items_at, spares_at, parity_at, extra_at}
+use Rattle.datagram.specs.Sizes.{packet_least, packet_limit, spares_least, spares_limit, covered_least, covered_limit, messages_least}
+use Rattle.datagram.specs.Sizes.{messages_limit}
+use Rattle.datagram.specs.Read.{ExtraHead, after, length_from, octet_at, item_at, items_at, spares_at, parity_at, extra_at}
 use Rattle.datagram.specs.Read.{least_of, most_of, number_of, whole_of, read_datagram}
 use Rattle.datagram.specs.Write.{number_octets, item_octets, items_octets, count_inside, item_inside, items_inside, cut, sum_of}
 use Rattle.datagram.specs.Write.{carried_of, datagram_octets, datagram_to_write}

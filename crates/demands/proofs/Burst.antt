@@ -11,7 +11,8 @@ use Rattle.octets.specs.ExclusiveOr.{xor_at, exclusive_or, longest}
 use Rattle.length.specs.Answers.{done}
 use Rattle.length.specs.Length.{length_at, length_octets, allowed, length_within}
 use Rattle.datagram.specs.Carried.{spares, parity, Carried}
-use Rattle.datagram.specs.Read.{octet_at, item_at, items_at, end_of, spares_at, parity_at, extra_at, number_of, whole_of, read_datagram, carried_by}
+use Rattle.datagram.specs.Read.{octet_at, item_at, items_at, end_of, spares_at, parity_at, extra_at, number_of, whole_of, read_datagram}
+use Rattle.datagram.specs.Read.{carried_by}
 use Rattle.datagram.specs.Write.{number_octets, item_octets, items_octets, counted_octets, datagram_octets}
 use Rattle.session.specs.Cells.{repaired, filled_cell, cell_at, kept_before}
 use Rattle.session.specs.Members.{members_of, InReach}
@@ -22,7 +23,7 @@ use Rattle.session.specs.View.{View, fresh_view}
 use Rattle.session.specs.Offer as offers
 use Rattle.session.specs.Offer.{keep, keep_spares, accept, offered}
 use Rattle.session_held.specs.declared.Session.{Session}
-use Rattle.session_calls.specs.declared.receiver.AfterOffer.{AfterOffer}
+use Rattle.session_calls.specs.declared.Returned.{Returned}
 use Rattle.sender.specs.Send.{packet_inside}
 use Rattle.sender.specs.Carries as carries
 use Rattle.sender.specs.Honest.{packet_at, HonestAt, HonestSender}
@@ -78,17 +79,20 @@ abbrev with034 : View
 with034 = accept 4 carried4 with03
 
 takes-0 : offers.offer datagram0 fresh_view ≡ done with0
-unfolding offers.offer read_datagram carried_by number_of whole_of extra_at spares_at parity_at items_at item_at length_within octet_at allowed end_of
+unfolding offers.offer read_datagram carried_by number_of whole_of extra_at spares_at parity_at items_at item_at length_within octet_at
+    allowed end_of
     length_at offered fresh_view
 takes-0 = refl
 
 takes-3 : offers.offer datagram3 with0 ≡ done with03
-unfolding offers.offer read_datagram carried_by number_of whole_of extra_at spares_at parity_at items_at item_at length_within octet_at allowed end_of
+unfolding offers.offer read_datagram carried_by number_of whole_of extra_at spares_at parity_at items_at item_at length_within octet_at
+    allowed end_of
     length_at offered accept fresh_view
 takes-3 = refl
 
 takes-4 : offers.offer datagram4 with03 ≡ done with034
-unfolding offers.offer read_datagram carried_by number_of whole_of extra_at spares_at parity_at items_at item_at length_within octet_at allowed end_of
+unfolding offers.offer read_datagram carried_by number_of whole_of extra_at spares_at parity_at items_at item_at length_within octet_at
+    allowed end_of
     length_at offered accept fresh_view
 takes-4 = refl
 
@@ -117,7 +121,8 @@ record Cells : Type 0 where
   back2 : cell_at with034.cells (kept_before + 2) ≡ filled_cell 4 repaired packet2
 
 cells : Cells
-unfolding fresh_view accept keep keep_spares tab xor_at exclusive_or members_of passing usable first_usable mended fill repair_f repair messages_of
+unfolding fresh_view accept keep keep_spares tab xor_at exclusive_or members_of passing usable first_usable mended fill repair_f repair
+    messages_of
     messages_in_row held_messages
 cells =
     record {
@@ -156,7 +161,7 @@ rest p reach other =
     ends-known with034 p cells.still0 cells.still3
     (subst (λ (x : Held). InReach (kept_before + 4) x.n (length x.messages) p) held reach) other
 
-met : (s : Session) (zero three four : AfterOffer) → BurstOffered s zero three four → BurstMet three.session four.session
+met : (s : Session) (zero three four : Returned (Unit {0})) → BurstOffered s zero three four → BurstMet three.session four.session
 met s first three four c =
     let seen = fresh-seen s c.start in
     let seen-0 = then-seen seen c.first0 (done with0) takes-0 in

@@ -1,5 +1,7 @@
 -- The public calls follow the history: a session within its ranges that is seen as a view answers, and hands back, what the
 -- definitions make of that view. Assumes nothing.
+use Rattle.std.proofs.Common.{Result, Ok, Err}
+use Rattle.length.specs.declared.Refusal.{Refusal}
 use Prim.Native.Nat.{ℕ, ◌%◌, ◌≤◌, ◌<◌}
 use mathlib.Core.Path.{◌≡◌, refl, sym, ap, subst, ◌∙◌}
 use mathlib.Core.Bool.{Bool, true, false, cond, false≢true}
@@ -29,7 +31,6 @@ use Rattle.session_held.specs.declared.Session.{Session}
 use Rattle.session_held.proofs.Laws.{session-in-ranges, in-ranges-true}
 use Rattle.session_release.specs.Outcome.{Handed, released_outcome, handed_of, octets_handed}
 use Rattle.session_release.specs.declared.Released.{Released}
-use Rattle.session_release.specs.declared.Released.TheVariants as answer
 use Rattle.session_offer.specs.Outcome.{accepted_of}
 use Rattle.solve.specs.Solve as solutions
 use Rattle.solve.proofs.SolutionsLaws.{means-it}
@@ -37,9 +38,7 @@ use Rattle.solve.specs.Solved.{Solves}
 use Rattle.solve_code.specs.Outcome.{filled_of}
 use Rattle.session_calls.specs.Receiver.{SeenAs, After, in_ranges_then, offer_of, OfferOwes, release_of, ReleaseOwes}
 use Rattle.session_calls.specs.Solver.{SolvesAs, SolveOwes}
-use Rattle.session_calls.specs.declared.receiver.AfterOffer.{AfterOffer}
-use Rattle.session_calls.specs.declared.receiver.AfterRelease.{AfterRelease}
-use Rattle.session_calls.specs.declared.solver.AfterSolve.{AfterSolve}
+use Rattle.session_calls.specs.declared.Returned.{Returned}
 use Rattle.session_calls.proofs.Laws.{solves-as, one_answer_lem}
 use Rattle.demands.specs.Common.History as moves
 use Rattle.demands.specs.Common.History.{after_move}
@@ -133,39 +132,40 @@ module _ {view : View} {s : Session} (seen : SeenAs view s) where
   after-release (done v) t state = state
   after-release (refused why) t state = subst (SeenAs view) (sym state) seen
 
-  pub offered-seen : {octets : List ℕ} {r : AfterOffer} → OfferOwes s octets r → SeenAs (after_move (moves.offer octets) view) r.session
+  pub offered-seen : {octets : List ℕ} {r : Returned (Unit {0})} → OfferOwes s octets r
+      → SeenAs (after_move (moves.offer octets) view) r.session
   unfolding after_move
   offered-seen {octets} {r} owes =
       after-offer (offers.offer octets view) r.session
       (subst (λ (a : Answer View). After a s r.session) (offer-is octets) owes.state)
 
-  pub released-seen : {leave : Bool} {old new : List ℕ} {r : AfterRelease} → ReleaseOwes s leave old new r
+  pub released-seen : {leave : Bool} {old new : List ℕ} {r : Returned Released} → ReleaseOwes s leave old new r
       → SeenAs (after_move (moves.release leave (length old)) view) r.session
   unfolding after_move
   released-seen {leave} {old} {new} {r} owes =
       after-release (releases.release leave (length old) view) r.session
       (subst (λ (a : Answer Release). After (view_after_release a) s r.session) (release-is leave (length old)) owes.state)
 
-  pub solved-seen : {r : AfterSolve} → SolveOwes s r → SeenAs (after_move moves.solve view) r.session
+  pub solved-seen : {r : Returned (Unit {0})} → SolveOwes s r → SeenAs (after_move moves.solve view) r.session
   unfolding after_move
   solved-seen {r} owes =
       after-offer (solutions.solve view) r.session
       (subst (λ (a : Answer View). After a s r.session) (solve-is owes.wanted owes.means) owes.state)
 
 -- ---- what the answers hand out
-handed_out_lem : (a : Answer Release) (r : Released) (old : List ℕ) → released_outcome r ≡ handed_of a
+handed_out_lem : (a : Answer Release) (r : Result Released Refusal) (old : List ℕ) → released_outcome r ≡ handed_of a
     → handed_out r (over (octets_handed a) old) ≡ released_by a
-handed_out_lem (done a) (answer.Number kind number note size) old e =
-    let same : ◌≡◌ {A = Handed} (record { kind = state_of kind; number = number; note = note; size = size })
+handed_out_lem (done a) (Ok left) old e =
+    let same : ◌≡◌ {A = Handed} (record { kind = state_of left.kind; number = left.number; note = left.note; size = left.size })
     (record { kind = a.kind; number = a.number; note = a.note; size = length a.octets }) = cc in
     let word = ap (λ (x : Handed). x.kind) same in
     let place = ap (λ (x : Handed). x.number) same in
     let filler = ap (λ (x : Handed). x.note) same in
     let long = ap (λ (x : Handed). x.size) same in
     rw (word, place, filler, long, take-append_seam a.octets (drop (length a.octets) old))
-handed_out_lem (done a) (answer.Refused why) old e = let z : ◌≡◌ {A = ℕ} 0 1 = cc in absurd (omega arith)
-handed_out_lem (refused x) (answer.Number kind number note size) old e = let z : ◌≡◌ {A = ℕ} 0 1 = cc in absurd (omega arith)
-handed_out_lem (refused x) (answer.Refused why) old e = refl
+handed_out_lem (done a) (Err why) old e = let z : ◌≡◌ {A = ℕ} 0 1 = cc in absurd (omega arith)
+handed_out_lem (refused x) (Ok left) old e = let z : ◌≡◌ {A = ℕ} 0 1 = cc in absurd (omega arith)
+handed_out_lem (refused x) (Err why) old e = refl
 
 -- what left is what the rules make leave
 pub left_is : (view : View) (call : Call) → Says view call → left_in call ≡ leaving (move_of call) view
@@ -177,10 +177,10 @@ left_is view (solve r) says = refl
 
 -- ---- chains
 module _ {view : View} {s : Session} (seen : SeenAs view s) where
-  offered-says : {octets : List ℕ} {r : AfterOffer} → OfferOwes s octets r → Says view (offer octets r.answer)
+  offered-says : {octets : List ℕ} {r : Returned (Unit {0})} → OfferOwes s octets r → Says view (offer octets r.answer)
   offered-says {octets} owes = owes.answer ∙ ap accepted_of (offer-is seen octets)
 
-  released-says : {leave : Bool} {old new : List ℕ} {r : AfterRelease} → ReleaseOwes s leave old new r
+  released-says : {leave : Bool} {old new : List ℕ} {r : Returned Released} → ReleaseOwes s leave old new r
       → Says view (release leave old new r.answer)
   released-says {leave} {old} owes = (
     owes.answer ∙ ap handed_of (release-is seen leave (length old)),
@@ -191,7 +191,7 @@ module _ {view : View} {s : Session} (seen : SeenAs view s) where
   pub seen-solves : Solves view (solutions.solve view)
   seen-solves = subst (λ (v : View). Solves v (solutions.solve v)) seen.view (means-it (view_of s) seen.within.sound)
 
-  solved-says : {r : AfterSolve} → SolveOwes s r → Says view (solve r.answer)
+  solved-says : {r : Returned (Unit {0})} → SolveOwes s r → Says view (solve r.answer)
   solved-says owes = (
     owes.answer ∙ ap filled_of (solve-is seen owes.wanted owes.means),
     seen-solves,

@@ -1,5 +1,5 @@
 -- The worked refusal of solve, computed: at octet 1 the two known members have the exclusive or BB, and the message has 0. Assumes nothing.
-use Prim.Native.Nat.{ℕ, ◌+◌, ◌<◌}
+use Prim.Native.Nat.{ℕ, ◌+◌}
 use mathlib.Core.Path.{◌≡◌, refl, sym, ap, subst, ◌∙◌}
 use mathlib.Core.List.Memᴰ.{head as here}
 use mathlib.Core.List.{List, [], ◌∷◌, Memᴰ as Among}
@@ -11,7 +11,8 @@ use Rattle.octets.specs.ExclusiveOr.{xor_at, exclusive_or}
 use Rattle.length.specs.Answers.{done}
 use Rattle.length.specs.Length.{length_at, allowed, length_within}
 use Rattle.datagram.specs.Carried.{spares, parity, Carried}
-use Rattle.datagram.specs.Read.{octet_at, item_at, items_at, end_of, spares_at, parity_at, extra_at, number_of, whole_of, read_datagram, carried_by}
+use Rattle.datagram.specs.Read.{octet_at, item_at, items_at, end_of, spares_at, parity_at, extra_at, number_of, whole_of, read_datagram}
+use Rattle.datagram.specs.Read.{carried_by}
 use Rattle.session.specs.Cells.{Cell, received, repaired, filled_cell, cell_at, is_unknown, kept_before}
 use Rattle.session.specs.Members.{members_of}
 use Rattle.session.specs.Repair.{Message, passing, usable, first_usable, mended, fill, repair_f, repair}
@@ -19,15 +20,12 @@ use Rattle.session.specs.Held.{messages_of, messages_in_row, held_messages}
 use Rattle.session.specs.View.{View, fresh_view}
 use Rattle.session.specs.Offer as offers
 use Rattle.session.specs.Offer.{keep, keep_spares, accept, offered}
-use Rattle.session_held.specs.declared.Session.{Session}
 use Rattle.session_held.proofs.Laws.{in-ranges-true}
 use Rattle.solve.specs.Equations.{Solution, Unsolvable}
 use Rattle.solve.proofs.Laws.{known_at, equation-at}
 use Rattle.session_calls.specs.SolverClaims.{HasNone}
-use Rattle.session_calls.specs.declared.receiver.AfterOffer.{AfterOffer}
-use Rattle.session_calls.specs.declared.solver.AfterSolve.{AfterSolve}
 use Rattle.session_calls.proofs.SolverClaims as solver
-use Rattle.demands.specs.Demand1.CutShortExample.{long_datagram1, short_datagram2, CutShortCalls, CutShortMet, CutShortExample}
+use Rattle.demands.specs.Demand1.CutShortExample.{long_datagram1, short_datagram2, CutShortExample}
 use Rattle.demands.proofs.Calling.{fresh-seen}
 use Rattle.demands.proofs.OfferedTo.{then-seen}
 
@@ -45,12 +43,14 @@ abbrev with12 : View
 with12 = accept 2 carried2 with1
 
 takes-1 : offers.offer long_datagram1 fresh_view ≡ done with1
-unfolding offers.offer read_datagram carried_by number_of whole_of extra_at spares_at parity_at items_at item_at length_within octet_at allowed end_of
+unfolding offers.offer read_datagram carried_by number_of whole_of extra_at spares_at parity_at items_at item_at length_within octet_at
+    allowed end_of
     length_at offered fresh_view
 takes-1 = refl
 
 takes-2 : offers.offer short_datagram2 with1 ≡ done with12
-unfolding offers.offer read_datagram carried_by number_of whole_of extra_at spares_at parity_at items_at item_at length_within octet_at allowed end_of
+unfolding offers.offer read_datagram carried_by number_of whole_of extra_at spares_at parity_at items_at item_at length_within octet_at
+    allowed end_of
     length_at offered accept fresh_view
 takes-2 = refl
 
@@ -59,7 +59,8 @@ record Cells : Type 0 where
   there1 : cell_at with12.cells (kept_before + 1) ≡ filled_cell 1 received (0xAA ∷ 0xBB ∷ [])
 
 cells : Cells
-unfolding fresh_view accept keep keep_spares tab xor_at exclusive_or members_of passing usable first_usable mended fill repair_f repair messages_of
+unfolding fresh_view accept keep keep_spares tab xor_at exclusive_or members_of passing usable first_usable mended fill repair_f repair
+    messages_of
     messages_in_row held_messages
 cells = record { back0 = refl; there1 = refl }
 

@@ -9,6 +9,7 @@ use native.Mathlib.Omega.{arith}
 use Rattle.length.specs.Refusals.{ends_early, bad_form, outside_sizes}
 use Rattle.length.specs.Length.{length_octets, of_two}
 use Rattle.length.specs.Claims.{Octets}
+use Rattle.length.specs.declared.Reason.{Reason}
 use Rattle.octets.proofs.Laws.{below_or_not}
 use Rattle.demands.specs.Demand1.DatagramItems.{Item, number, packet, kind, spares, octet01, octet_n, count_m, message, inside, Form}
 use Rattle.demands.specs.Demand1.DatagramItems.{many, sized, form_of, form_due}
@@ -119,7 +120,7 @@ cut-wrong c =
 
 -- and is wrong with any octets after it
 cut_on : (least most first second : ℕ) (t : List ℕ) → second < 256 → 0x80 ≤ first → first < 0xC0
-    → (0x80 ≤ of_two first second → most < of_two first second) → (n : ℕ) × Wrong (sized least most) (first ∷ second ∷ t) n
+    → (0x80 ≤ of_two first second → most < of_two first second) → (n : Reason) × Wrong (sized least most) (first ∷ second ∷ t) n
 cut_on least most first second t octet low high over =
     ⊎_elim
     (λ less.
@@ -132,7 +133,7 @@ cut_on least most first second t octet low high over =
     ))
     (below_or_not (of_two first second) 0x80)
 
-pub front-wrong : {s : List ℕ} (f : Front s) → CutOver s → (n : ℕ) × FirstWrong (s ++ (f.first ∷ f.rest)) n
+pub front-wrong : {s : List ℕ} (f : Front s) → CutOver s → (n : Reason) × FirstWrong (s ++ (f.first ∷ f.rest)) n
 unfolding form_due
 front-wrong f c =
     let two = c.of_two_octets in

@@ -1,4 +1,4 @@
--- Each form of an item of a datagram: octets either are it as it must be, or are wrong with one number, and never both. A function
+-- Each form of an item of a datagram: octets either are it as it must be, or are wrong for one reason, and never both. A function
 -- tells which, in the words of the datagram reader; what is right and each row of what is wrong agrees with it. Assumes nothing.
 use Prim.Native.Nat.{ℕ, ◌+◌, ◌/◌, ◌%◌, ◌≤◌, ◌<◌}
 use mathlib.Core.Path.{◌≡◌, refl, sym, ap, ◌∙◌}
@@ -16,9 +16,11 @@ use Rattle.length.specs.Answers.{Answer, done, refuse, ◌>>=◌, LengthAnswer}
 use Rattle.length.specs.Length.{length_at, length_octets, length_limit, of_two, allowed}
 use Rattle.length.specs.Claims.{Octets}
 use Rattle.length.proofs.Laws.{length_octets-one, length_octets-two, written-reads, allowed-sizes}
+use Rattle.length.specs.declared.Reason.{Reason}
 use Rattle.demands.specs.Demand1.DatagramItems.{Form, many, sized, plain, flag, nothing, Right, right_octets, right_size, right_octet}
 use Rattle.demands.specs.Demand1.DatagramItems.{right_spares, right_parity}
-use Rattle.demands.specs.Demand1.DatagramRefusals.{Wrong, few_octets, no_size, cut_size, no_octet, no_flag, high_size, long_size, other_size}
+use Rattle.demands.specs.Demand1.DatagramRefusals.{Wrong, few_octets, no_size, cut_size, no_octet, no_flag, high_size, long_size}
+use Rattle.demands.specs.Demand1.DatagramRefusals.{other_size}
 use Rattle.demands.specs.Demand1.DatagramRefusals.{other_octet, low_bits, more_octets}
 
 -- ---- as the reader tells
@@ -68,7 +70,7 @@ right-at fits right_spares t = refl
 right-at fits right_parity t = refl
 
 -- ---- what is wrong, row by row
-abbrev Told : {f : Form} {rest : List ℕ} {n : ℕ} → Wrong f rest n → Type 0
+abbrev Told : {f : Form} {rest : List ℕ} {n : Reason} → Wrong f rest n → Type 0
 Told {f} {rest} {n} w = form_at f rest ≡ refuse n
 
 module _ (least most : ℕ) where
@@ -124,7 +126,7 @@ more-octets : (first : ℕ) (rest : List ℕ) → Told (more_octets {first = fir
 unfolding form_at
 more-octets first rest = rw (lt-ltb 0 (length (first ∷ rest)) (omega arith))
 
-pub wrong-at : {f : Form} {rest : List ℕ} {n : ℕ} → Wrong f rest n → form_at f rest ≡ refuse n
+pub wrong-at : {f : Form} {rest : List ℕ} {n : Reason} → Wrong f rest n → form_at f rest ≡ refuse n
 wrong-at (few_octets {rest = rest} few) = few-octets rest few
 wrong-at (no_size {least} {most}) = no_size_lem least most
 wrong-at (cut_size {least} {most} low high) = cut-size least most low high
@@ -140,7 +142,7 @@ wrong-at (more_octets {first} {rest}) = more-octets first rest
 -- ---- one of the two
 pub data Stands (f : Form) (rest : List ℕ) : Answer LengthAnswer → Type 0 where
   right : {x : List ℕ} {v n : ℕ} (t : List ℕ) → Right f x v → rest ≡ x ++ t → length x ≡ n → Stands f rest (found v n)
-  wrong : {n : ℕ} → Wrong f rest n → Stands f rest (refuse n)
+  wrong : {n : Reason} → Wrong f rest n → Stands f rest (refuse n)
 
 pub octets-stand : (n : ℕ) (rest : List ℕ) → Stands (many n) rest (form_at (many n) rest)
 unfolding form_at

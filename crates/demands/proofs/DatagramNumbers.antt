@@ -1,48 +1,50 @@
--- What the number of a wrong item says: 6 that nothing was due, 1 that octets are missing; and with any number but 1 it stays wrong
--- with the same number whatever follows. Each is read off the rows of `Wrong`. Assumes nothing.
+-- What the reason of a wrong item says: 6 that nothing was due, 1 that octets are missing; and for any reason but 1 it stays wrong
+-- for the same reason whatever follows. Each is read off the rows of `Wrong`. Assumes nothing.
 use Prim.Native.Nat.{ℕ, ◌≤◌, ◌<◌}
 use mathlib.Core.Path.{◌≡◌, refl, sym, ap, subst, ◌∙◌}
 use mathlib.Core.List.{List, [], ◌∷◌, ◌++◌, append_assoc}
 use lib.ListN.{length}
 use native.Mathlib.Omega.{arith}
-use Rattle.length.specs.Refusals.{ends_early, too_long, outside_sizes, left_over}
+use Rattle.length.specs.Refusals.{ends_early, too_long, outside_sizes, left_over, number_of}
 use Rattle.length.specs.Length.{length_octets}
+use Rattle.length.specs.declared.Reason.{Reason}
 use Rattle.demands.specs.Demand1.DatagramItems.{Item, number, packet, kind, spares, octet01, octet_n, count_m, message, inside, Form}
 use Rattle.demands.specs.Demand1.DatagramItems.{many, sized, nothing, form_of, form_due}
 use Rattle.demands.specs.Demand1.DatagramItems.{Due}
-use Rattle.demands.specs.Demand1.DatagramRefusals.{Wrong, few_octets, no_size, cut_size, no_octet, no_flag, high_size, long_size, other_size}
+use Rattle.demands.specs.Demand1.DatagramRefusals.{Wrong, few_octets, no_size, cut_size, no_octet, no_flag, high_size, long_size}
+use Rattle.demands.specs.Demand1.DatagramRefusals.{other_size}
 use Rattle.demands.specs.Demand1.DatagramRefusals.{other_octet, low_bits, more_octets, FirstWrong, Followed}
 
--- ---- what the number says of the item
-pub never-over : {f : Form} {rest : List ℕ} {n : ℕ} → Wrong f rest n → n ≡ too_long → ⊥
-never-over (few_octets few) e = omega arith
-never-over no_size e = omega arith
-never-over (cut_size low high) e = omega arith
-never-over no_octet e = omega arith
-never-over no_flag e = omega arith
-never-over (high_size high) e = omega arith
-never-over (long_size small) e = omega arith
-never-over (other_size rest out fits) e = omega arith
-never-over (other_octet out) e = omega arith
-never-over (low_bits set) e = omega arith
-never-over more_octets e = omega arith
+-- ---- what the reason says of the item
+pub never-over : {f : Form} {rest : List ℕ} {n : Reason} → Wrong f rest n → n ≡ too_long → ⊥
+never-over (few_octets few) e = let same = ap number_of e in omega arith
+never-over no_size e = let same = ap number_of e in omega arith
+never-over (cut_size low high) e = let same = ap number_of e in omega arith
+never-over no_octet e = let same = ap number_of e in omega arith
+never-over no_flag e = let same = ap number_of e in omega arith
+never-over (high_size high) e = let same = ap number_of e in omega arith
+never-over (long_size small) e = let same = ap number_of e in omega arith
+never-over (other_size rest out fits) e = let same = ap number_of e in omega arith
+never-over (other_octet out) e = let same = ap number_of e in omega arith
+never-over (low_bits set) e = let same = ap number_of e in omega arith
+never-over more_octets e = let same = ap number_of e in omega arith
 
-left_over_lem : {f : Form} {rest : List ℕ} {n : ℕ} → Wrong f rest n → n ≡ left_over
+left_over_lem : {f : Form} {rest : List ℕ} {n : Reason} → Wrong f rest n → n ≡ left_over
     → (f ≡ nothing) × (first : ℕ) × (t : List ℕ) × (rest ≡ first ∷ t)
-left_over_lem (few_octets few) e = absurd (omega arith)
-left_over_lem no_size e = absurd (omega arith)
-left_over_lem (cut_size low high) e = absurd (omega arith)
-left_over_lem no_octet e = absurd (omega arith)
-left_over_lem no_flag e = absurd (omega arith)
-left_over_lem (high_size high) e = absurd (omega arith)
-left_over_lem (long_size small) e = absurd (omega arith)
-left_over_lem (other_size rest out fits) e = absurd (omega arith)
-left_over_lem (other_octet out) e = absurd (omega arith)
-left_over_lem (low_bits set) e = absurd (omega arith)
+left_over_lem (few_octets few) e = let same = ap number_of e in absurd (omega arith)
+left_over_lem no_size e = let same = ap number_of e in absurd (omega arith)
+left_over_lem (cut_size low high) e = let same = ap number_of e in absurd (omega arith)
+left_over_lem no_octet e = let same = ap number_of e in absurd (omega arith)
+left_over_lem no_flag e = let same = ap number_of e in absurd (omega arith)
+left_over_lem (high_size high) e = let same = ap number_of e in absurd (omega arith)
+left_over_lem (long_size small) e = let same = ap number_of e in absurd (omega arith)
+left_over_lem (other_size rest out fits) e = let same = ap number_of e in absurd (omega arith)
+left_over_lem (other_octet out) e = let same = ap number_of e in absurd (omega arith)
+left_over_lem (low_bits set) e = let same = ap number_of e in absurd (omega arith)
 left_over_lem (more_octets {first} {rest}) e = (refl, first, rest, refl)
 
--- with any number but 1 it is as wrong with octets after it
-stays-wrong : (more : List ℕ) {f : Form} {rest : List ℕ} {n : ℕ} → Wrong f rest n → (n ≡ ends_early → ⊥) → Wrong f (rest ++ more) n
+-- for any reason but 1 it is as wrong with octets after it
+stays-wrong : (more : List ℕ) {f : Form} {rest : List ℕ} {n : Reason} → Wrong f rest n → (n ≡ ends_early → ⊥) → Wrong f (rest ++ more) n
 stays-wrong more (few_octets few) other = absurd (other refl)
 stays-wrong more no_size other = absurd (other refl)
 stays-wrong more (cut_size low high) other = absurd (other refl)
@@ -63,18 +65,18 @@ pub data Early (f : Form) (rest : List ℕ) : Type 0 where
   bare : rest ≡ [] → (f ≡ nothing → ⊥) → Early f rest
   cut : {least most first : ℕ} → f ≡ sized least most → rest ≡ first ∷ [] → 0x80 ≤ first → first < 0xC0 → Early f rest
 
-pub ends-early : {f : Form} {rest : List ℕ} {n : ℕ} → Wrong f rest n → n ≡ ends_early → Early f rest
+pub ends-early : {f : Form} {rest : List ℕ} {n : Reason} → Wrong f rest n → n ≡ ends_early → Early f rest
 ends-early (few_octets less) e = few refl less
 ends-early no_size e = bare refl (λ is. let z : ◌≡◌ {A = ℕ} 0 1 = cc in omega arith)
 ends-early (cut_size low high) e = cut refl refl low high
 ends-early no_octet e = bare refl (λ is. let z : ◌≡◌ {A = ℕ} 0 1 = cc in omega arith)
 ends-early no_flag e = bare refl (λ is. let z : ◌≡◌ {A = ℕ} 0 1 = cc in omega arith)
-ends-early (high_size high) e = absurd (omega arith)
-ends-early (long_size small) e = absurd (omega arith)
-ends-early (other_size rest out fits) e = absurd (omega arith)
-ends-early (other_octet out) e = absurd (omega arith)
-ends-early (low_bits set) e = absurd (omega arith)
-ends-early more_octets e = absurd (omega arith)
+ends-early (high_size high) e = let same = ap number_of e in absurd (omega arith)
+ends-early (long_size small) e = let same = ap number_of e in absurd (omega arith)
+ends-early (other_size rest out fits) e = let same = ap number_of e in absurd (omega arith)
+ends-early (other_octet out) e = let same = ap number_of e in absurd (omega arith)
+ends-early (low_bits set) e = let same = ap number_of e in absurd (omega arith)
+ends-early more_octets e = let same = ap number_of e in absurd (omega arith)
 
 -- an item is due unless nothing may follow
 some_item : (item : Item) → form_of item ≡ nothing → ⊥
@@ -112,7 +114,7 @@ wrong-followed w =
       whole = subst (λ (items : List Item). Due w.before items) none_left w.due;
     }
 
-pub wrong-longer : (s more : List ℕ) (n : ℕ) → FirstWrong s n → (n ≡ ends_early → ⊥) → FirstWrong (s ++ more) n
+pub wrong-longer : (s more : List ℕ) (n : Reason) → FirstWrong s n → (n ≡ ends_early → ⊥) → FirstWrong (s ++ more) n
 wrong-longer s more n w other =
     record {
       before = w.before;

@@ -1,6 +1,7 @@
--- What the datagram reader refuses, and with which number: the reader walks over the items, the walk ends at the first that is
--- wrong, and it has one outcome. A wrong item stays wrong with the same number whatever follows it, except for 1, where octets are
+-- What the datagram reader refuses, and for which reason: the reader walks over the items, the walk ends at the first that is
+-- wrong, and it has one outcome. A wrong item stays wrong for the same reason whatever follows it, except for 1, where octets are
 -- missing and can still come. Assumes nothing.
+use Rattle.std.proofs.Common.{Result}
 use Prim.Native.Nat.{ℕ, ◌+◌, ◌≤◌, ◌<◌}
 use mathlib.Core.Path.{◌≡◌, refl, sym, ap, subst, ◌∙◌}
 use mathlib.Core.Logic.{◌⊎◌, inl, inr, ⊎_elim}
@@ -10,8 +11,8 @@ use lib.ListN.{length, length-append, get_or-append, get_or-eq_default}
 use lib.Seq.{get_or-append-add}
 use native.Mathlib.Omega.{arith}
 use borrow.Author.Tests.{lt-ltb}
-use Rattle.octets.proofs.Laws.{below_or_not, same_or_not}
-use Rattle.length.specs.Refusals.{refusal, refusal_at, ends_early, too_long, left_over}
+use Rattle.octets.proofs.Laws.{below_or_not}
+use Rattle.length.specs.Refusals.{refusal, refusal_at, ends_early, too_long, left_over, number_of}
 use Rattle.length.specs.Answers.{Answer, done, refused}
 use Rattle.length.specs.declared.Refusal.{Refusal}
 use Rattle.length.proofs.Laws.{refused-same, refused-some, done_none}
@@ -21,6 +22,8 @@ use Rattle.datagram.specs.Read.{read_datagram}
 use Rattle.datagram.specs.Promise.{DatagramReads, read_outcome}
 use Rattle.datagram.specs.declared.reader.DatagramRead.{DatagramRead}
 use Rattle.length.specs.Tables.{refusal_in}
+use Rattle.length.specs.declared.Reason.{Reason}
+use Rattle.length.specs.declared.Reason.TheVariants as reason
 use Rattle.demands.specs.Demand1.DatagramItems.{packet, kind, form_of, brings, right_octets, begins, passes, WholeDatagram}
 use Rattle.demands.specs.Demand1.DatagramRefusals.{FirstWrong, Followed, Front, CutOver, RefusalOf, PlacedIn, DatagramRefusals}
 use Rattle.demands.proofs.DatagramWalk.{why_in, Walk, ends, stops, one-walk, start, walk_from, StopsAt, walk_ends, Ended}
@@ -34,10 +37,10 @@ whole_walks : {s : List ℕ} → WholeDatagram s → Walk 0 start s none
 whole_walks {s} whole = subst (λ (l : List ℕ). Walk 0 start l none) (append-nil s) (walk_from whole ends)
 
 -- the refusal of octets of which this is the first wrong item
-abbrev why_wrong : {s : List ℕ} {n : ℕ} → FirstWrong s n → Refusal
+abbrev why_wrong : {s : List ℕ} {n : Reason} → FirstWrong s n → Refusal
 why_wrong {n = n} w = refusal_at (length w.before) n
 
-wrong-walks : {s : List ℕ} {n : ℕ} (w : FirstWrong s n) → Walk 0 start s (some (why_wrong w))
+wrong-walks : {s : List ℕ} {n : Reason} (w : FirstWrong s n) → Walk 0 start s (some (why_wrong w))
 wrong-walks {s} {n} w = subst (λ (l : List ℕ). Walk 0 start l (some (why_wrong w))) (sym w.is) (walk_from w.due (stops w.wrong))
 
 not_none : {A : Type 0} {a : A} {o : Option A} → o ≡ none → o ≡ some a → ⊥
@@ -46,46 +49,70 @@ not_none p q = let z : ◌≡◌ {A = ℕ} 0 1 = cc in omega arith
 some_same : {A : Type 0} {n k : A} {o : Option A} → o ≡ some n → o ≡ some k → n ≡ k
 some_same p q = cc
 
--- the number of a refusal
-abbrev number_in : Option Refusal → Option ℕ
-number_in none = none
-number_in (some why) = some why.number
+-- the reason of a refusal
+abbrev reason_in : Option Refusal → Option Reason
+reason_in none = none
+reason_in (some why) = some why.reason
 
-number-in : {A : Type 0} (m : Answer A) → refusal_in m ≡ number_in (why_in m)
-number-in (done a) = refl
-number-in (refused why) = refl
+reason-in : {A : Type 0} (m : Answer A) → refusal_in m ≡ reason_in (why_in m)
+reason-in (done a) = refl
+reason-in (refused why) = refl
 
-whole-right : {s : List ℕ} {n : ℕ} → WholeDatagram s → FirstWrong s n → ⊥
+whole-right : {s : List ℕ} {n : Reason} → WholeDatagram s → FirstWrong s n → ⊥
 whole-right whole w = not_none refl (one-walk (whole_walks whole) (wrong-walks w))
+
+-- a reason is 1 or another
+early_or_not : (n : Reason) → (n ≡ ends_early) ⊎ (n ≡ ends_early → ⊥)
+early_or_not reason.EndsEarly = inl refl
+early_or_not reason.TooLong = inr (λ e. let same = ap number_of e in omega arith)
+early_or_not reason.BadForm = inr (λ e. let same = ap number_of e in omega arith)
+early_or_not reason.OutsideSizes = inr (λ e. let same = ap number_of e in omega arith)
+early_or_not reason.SpareBit = inr (λ e. let same = ap number_of e in omega arith)
+early_or_not reason.LeftOver = inr (λ e. let same = ap number_of e in omega arith)
+early_or_not reason.Repeated = inr (λ e. let same = ap number_of e in omega arith)
+early_or_not reason.TooFar = inr (λ e. let same = ap number_of e in omega arith)
+early_or_not reason.Late = inr (λ e. let same = ap number_of e in omega arith)
+early_or_not reason.BaseUnknown = inr (λ e. let same = ap number_of e in omega arith)
+early_or_not reason.NotAssigned = inr (λ e. let same = ap number_of e in omega arith)
+early_or_not reason.NoRoom = inr (λ e. let same = ap number_of e in omega arith)
+early_or_not reason.WrongData = inr (λ e. let same = ap number_of e in omega arith)
+early_or_not reason.WrongSettings = inr (λ e. let same = ap number_of e in omega arith)
+early_or_not reason.AllPassed = inr (λ e. let same = ap number_of e in omega arith)
+early_or_not reason.OutsideRanges = inr (λ e. let same = ap number_of e in omega arith)
+early_or_not reason.FrameTooLong = inr (λ e. let same = ap number_of e in omega arith)
+early_or_not reason.BadImage = inr (λ e. let same = ap number_of e in omega arith)
+early_or_not reason.OtherEdition = inr (λ e. let same = ap number_of e in omega arith)
+early_or_not reason.TooManyLines = inr (λ e. let same = ap number_of e in omega arith)
+early_or_not reason.NoSolution = inr (λ e. let same = ap number_of e in omega arith)
 
 -- ---- the reader
 module _ (s : List ℕ) (octets : Octets s) where
-  abbrev answer : Option ℕ
+  abbrev answer : Option Reason
   answer = refusal_in (read_datagram s)
 
   is-over : datagram_limit < length s → answer ≡ some too_long
   unfolding read_datagram
   is-over long = rw (lt-ltb datagram_limit (length s) long)
 
-  -- a number other than 2 is that of octets within the limit
-  within-limit : {o : Option ℕ} → answer ≡ o → (o ≡ some too_long → ⊥) → length s ≤ datagram_limit
+  -- a reason other than 2 is that of octets within the limit
+  within-limit : {o : Option Reason} → answer ≡ o → (o ≡ some too_long → ⊥) → length s ≤ datagram_limit
   within-limit e other = ⊎_elim (λ long. absurd (other (sym e ∙ is-over long))) (λ short. short) (below_or_not datagram_limit (length s))
 
   is_whole : WholeDatagram s → answer ≡ none
-  is_whole whole = number-in (read_datagram s) ∙ ap number_in (one-walk (read_walk s octets (whole-short whole)) (whole_walks whole))
+  is_whole whole = reason-in (read_datagram s) ∙ ap reason_in (one-walk (read_walk s octets (whole-short whole)) (whole_walks whole))
 
-  why-wrong : {n : ℕ} → length s ≤ datagram_limit → (w : FirstWrong s n) → why_in (read_datagram s) ≡ some (why_wrong w)
+  why-wrong : {n : Reason} → length s ≤ datagram_limit → (w : FirstWrong s n) → why_in (read_datagram s) ≡ some (why_wrong w)
   why-wrong short w = one-walk (read_walk s octets short) (wrong-walks w)
 
-  is-wrong : {n : ℕ} → length s ≤ datagram_limit → FirstWrong s n → answer ≡ some n
-  is-wrong short w = number-in (read_datagram s) ∙ ap number_in (why-wrong short w)
+  is-wrong : {n : Reason} → length s ≤ datagram_limit → FirstWrong s n → answer ≡ some n
+  is-wrong short w = reason-in (read_datagram s) ∙ ap reason_in (why-wrong short w)
 
   whole_is : answer ≡ none → WholeDatagram s
   whole_is e =
       subst (Ended s) (ap why_in (done_none (read_datagram s) e).1)
       (walk_ends refl begins (read_walk s octets (within-limit e (λ q. not_none refl q))))
 
-  wrong-is : (n : ℕ) → length s ≤ datagram_limit → answer ≡ some n → FirstWrong s n
+  wrong-is : (n : Reason) → length s ≤ datagram_limit → answer ≡ some n → FirstWrong s n
   wrong-is n short e =
       let got = refused-some (read_datagram s) n e in
       let ended : StopsAt s got.0 = subst (Ended s) (ap why_in got.1) (walk_ends refl begins (read_walk s octets short)) in
@@ -102,7 +129,7 @@ module _ (s : List ℕ) (octets : Octets s) where
 
   cut-is : answer ≡ some ends_early → Front s ⊎ CutOver s
   cut-is e =
-      let w = wrong-is ends_early (within-limit e (λ q. omega (arith, some_same {o = some ends_early} refl q))) e in
+      let w = wrong-is ends_early (within-limit e (λ q. omega (arith, ap number_of (some_same {o = some ends_early} refl q)))) e in
       ⊎_elim (λ m. inl (front-is m.more e m.octets (subst (λ (l : List ℕ). WholeDatagram (l ++ m.more)) (sym w.is) m.due)))
       (λ c. inr (subst CutOver (sym w.is) c))
       (completed w.before w.rest w.items w.due (ends-early w.wrong refl))
@@ -112,15 +139,15 @@ module _ (s : List ℕ) (octets : Octets s) where
     short : length s ≤ datagram_limit
     short = omega (arith, whole-short f.whole, length-append s (f.first ∷ f.rest))
 
-    pick : (o : Option ℕ) → answer ≡ o → answer ≡ some ends_early
+    pick : (o : Option Reason) → answer ≡ o → answer ≡ some ends_early
     pick none e =
         let followed : Followed (s ++ (f.first ∷ f.rest)) =
         record { datagram = s; first = f.first; rest = f.rest; is = refl; whole = whole_is e } in
         absurd (whole-right f.whole (followed-wrong followed))
     pick (some n) e =
-        ⊎_elim (λ is. e ∙ ap (λ (k : ℕ). some k) is)
+        ⊎_elim (λ is. e ∙ ap (λ (k : Reason). some k) is)
         (λ other. absurd (whole-right f.whole (wrong-longer s (f.first ∷ f.rest) n (wrong-is n short e) other)))
-        (same_or_not n ends_early)
+        (early_or_not n)
 
   pub told : RefusalOf s answer
   told =
@@ -140,14 +167,14 @@ module _ (s : List ℕ) (octets : Octets s) where
         let same : refusal too_long ≡ why = refused-same (rw (lt-ltb datagram_limit (length s) long) at e) in
         ap (λ (r : Refusal). r.place) (sym same)
 
-    item-place : length s ≤ datagram_limit → (w : FirstWrong s why.number) → why.place ≡ length w.before
+    item-place : length s ≤ datagram_limit → (w : FirstWrong s why.reason) → why.place ≡ length w.before
     item-place short w = ap (λ (r : Refusal). r.place) (some_same (ap why_in e) (why-wrong short w))
 
     place-few : why.place ≤ datagram_limit
     place-few =
         ⊎_elim (λ long. omega (arith, over-place long))
         (λ short.
-        let w = wrong-is why.number short (ap refusal_in e) in
+        let w = wrong-is why.reason short (ap refusal_in e) in
         omega (arith, item-place short w, ap length w.is, length-append w.before w.rest))
         (below_or_not datagram_limit (length s))
 
@@ -163,20 +190,21 @@ octets-rest : (s more : List ℕ) → Octets (s ++ more) → Octets more
 octets-rest s more octets i = rw (get_or-append-add s more i 0) at (octets (length s + i))
 
 -- ---- the call
-reads-told : {s : List ℕ} {r : DatagramRead} → Octets s → DatagramReads s r → RefusalOf s (refusal_in (read_outcome r))
+reads-told : {s : List ℕ} {r : Result DatagramRead Refusal} → Octets s → DatagramReads s r → RefusalOf s (refusal_in (read_outcome r))
 reads-told {s} octets p = subst (RefusalOf s) (sym (ap refusal_in p.answer)) (told s octets)
 
-module _ (s more : List ℕ) {r : DatagramRead} {n : ℕ} (octets : Octets (s ++ more)) (p : DatagramReads s r)
+module _ (s more : List ℕ) {r : Result DatagramRead Refusal} {n : Reason} (octets : Octets (s ++ more)) (p : DatagramReads s r)
     (e : refusal_in (read_outcome r) ≡ some n) (other : n ≡ ends_early → ⊥) where
   longer : length (s ++ more) ≤ datagram_limit → FirstWrong (s ++ more) n
   longer short =
       let here : length s ≤ datagram_limit = omega (arith, length-append s more) in
       wrong-longer s more n (((reads-told (octets-front s more octets) p).first_wrong n here).0 e) other
 
-  stays : {q : DatagramRead} → length (s ++ more) ≤ datagram_limit → DatagramReads (s ++ more) q → refusal_in (read_outcome q) ≡ some n
+  stays : {q : Result DatagramRead Refusal} → length (s ++ more) ≤ datagram_limit → DatagramReads (s ++ more) q
+      → refusal_in (read_outcome q) ≡ some n
   stays short long = ((reads-told octets long).first_wrong n short).1 (longer short)
 
-  never : {q : DatagramRead} → DatagramReads (s ++ more) q → refusal_in (read_outcome q) ≡ none → ⊥
+  never : {q : Result DatagramRead Refusal} → DatagramReads (s ++ more) q → refusal_in (read_outcome q) ≡ none → ⊥
   never long reads =
       let whole = (reads-told octets long).whole.0 reads in
       whole-right whole (longer (whole-short whole))

@@ -25,6 +25,7 @@ use Rattle.datagram.specs.declared.reader.Part.{Part}
 use Rattle.datagram.specs.declared.kind.Kind.TheVariants as kinds
 use Rattle.datagram.proofs.Laws.{rest-after}
 use Rattle.length.specs.Length.{allowed, length_within}
+use Rattle.length.specs.declared.Reason.{Reason}
 use Rattle.demands.specs.Demand1.DatagramItems.{Item, number, packet, kind, spares, octet01, octet_n, count_m, message, inside, Form}
 use Rattle.demands.specs.Demand1.DatagramItems.{many, sized, plain, flag, form_of, form_due, brings, Right, right_octets, right_octet}
 use Rattle.demands.specs.Demand1.DatagramItems.{right_spares, right_parity}
@@ -44,7 +45,7 @@ test-then true why a g = refl
 test-then false why a g = refl
 
 -- and of one at the front of what is read from a place on
-test-from : {A B : Type 0} (t : Bool) (at n : ℕ) (a : A) (g : A → Answer B)
+test-from : {A B : Type 0} (t : Bool) (at : ℕ) (n : Reason) (a : A) (g : A → Answer B)
     → ◌>>=◌ (read_from at (cond t (refuse n) (done a))) g ≡ cond t (refuse_at at n) (g a)
 test-from true at n a g = ap (λ (m : Answer _). ◌>>=◌ m g) (from_front at n)
 test-from false at n a g = refl

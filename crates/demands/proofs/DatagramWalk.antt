@@ -13,6 +13,7 @@ use Rattle.length.specs.Answers.{Answer, done, refused, refuse, LengthAnswer}
 use Rattle.length.specs.Length.{length_limit}
 use Rattle.length.specs.declared.Refusal.{Refusal}
 use Rattle.length.proofs.Laws.{done-same}
+use Rattle.length.specs.declared.Reason.{Reason}
 use Rattle.demands.specs.Demand1.DatagramItems.{Item, number, packet, kind, spares, octet01, octet_n, count_m, message, inside, nothing}
 use Rattle.demands.specs.Demand1.DatagramItems.{form_of, form_due, brings, Right, Due, begins, passes, WholeDatagram}
 use Rattle.demands.specs.Demand1.DatagramRefusals.{Wrong, FirstWrong}
@@ -28,7 +29,7 @@ why_in (refused why) = some why
 -- from these items due at a place, the octets that are there lead to this refusal, or to none
 pub data Walk : ℕ → List Item → List ℕ → Option Refusal → Type 0 where
   ends : {at : ℕ} → Walk at [] [] none
-  stops : {at : ℕ} {items : List Item} {rest : List ℕ} {n : ℕ} → Wrong (form_due items) rest n
+  stops : {at : ℕ} {items : List Item} {rest : List ℕ} {n : Reason} → Wrong (form_due items) rest n
       → Walk at items rest (some (refusal_at at n))
   steps : {at : ℕ} {item : Item} {later : List Item} {rest x : List ℕ} {v : ℕ} {r : Option Refusal} (t : List ℕ)
       → Right (form_of item) x v → rest ≡ x ++ t → Walk (at + length x) (brings item v ++ later) t r → Walk at (item ∷ later) rest r
@@ -50,13 +51,13 @@ right-told : (item : Item) {x : List ℕ} {v : ℕ} (rest t : List ℕ) → Righ
     → form_at (form_of item) rest ≡ found v (length x)
 right-told item rest t r is = ap (form_at (form_of item)) is ∙ right-at (most-fits item) r t
 
-not-both : {n v k : ℕ} {a : Answer LengthAnswer} → a ≡ refuse n → a ≡ found v k → ⊥
+not-both : {n : Reason} {v k : ℕ} {a : Answer LengthAnswer} → a ≡ refuse n → a ≡ found v k → ⊥
 not-both p q = let z : ◌≡◌ {A = ℕ} 0 1 = cc in omega arith
 
-refuse-same : {n k : ℕ} {a : Answer LengthAnswer} → a ≡ refuse n → a ≡ refuse k → n ≡ k
+refuse-same : {n k : Reason} {a : Answer LengthAnswer} → a ≡ refuse n → a ≡ refuse k → n ≡ k
 refuse-same {n} {k} p q =
     let same : refusal n ≡ refusal k = cc in
-    ap (λ (why : Refusal). why.number) same
+    ap (λ (why : Refusal). why.reason) same
 
 found-same : {v w n k : ℕ} {a : Answer LengthAnswer} → a ≡ found v n → a ≡ found w k → (v ≡ w) × (n ≡ k)
 found-same p q =
@@ -77,7 +78,7 @@ unfolding form_due
 one-walk ends ends = refl
 one-walk ends (stops w) = absurd (not-both (wrong-at w) nothing-there)
 one-walk (stops w) ends = absurd (not-both (wrong-at w) nothing-there)
-one-walk {at} (stops w) (stops u) = ap (λ (n : ℕ). some (refusal_at at n)) (refuse-same (wrong-at w) (wrong-at u))
+one-walk {at} (stops w) (stops u) = ap (λ (n : Reason). some (refusal_at at n)) (refuse-same (wrong-at w) (wrong-at u))
 one-walk (stops w) (steps {item = item} {rest = rest} t r is walk) = absurd (not-both (wrong-at w) (right-told item rest t r is))
 one-walk (steps {item = item} {rest = rest} t r is walk) (stops w) = absurd (not-both (wrong-at w) (right-told item rest t r is))
 one-walk {at} {q = q} (steps {item = item} {later} {rest} {x} {v} t r is walk) (steps {x = y} {v = w} u o so other) =
@@ -100,9 +101,9 @@ walk_from {items = items} {rest} {r} (passes {before} {x} due right) walk =
     subst (λ (l : List ℕ). Walk 0 start l r) (sym (append_assoc before x rest))
     (walk_from due (steps rest right refl (subst (λ (k : ℕ). Walk k items rest r) (length-append before x) walk)))
 
--- what a walk comes to: a datagram, or octets of which the first wrong item has this refusal's number, and begins at its place
+-- what a walk comes to: a datagram, or octets of which the first wrong item has this refusal's reason, and begins at its place
 pub record StopsAt (s : List ℕ) (why : Refusal) : Type 0 where
-  pub wrong : FirstWrong s why.number
+  pub wrong : FirstWrong s why.reason
   pub place : why.place ≡ length wrong.before
 
 abbrev pub Ended : List ℕ → Option Refusal → Type 0

@@ -1,10 +1,11 @@
 -- Demand 1, call by call: each definition is read row by row against its table. Assumes nothing.
-use Prim.Native.Nat.{ℕ, ◌+◌, ◌-◌}
+use Rattle.std.proofs.Common.{Option}
+use Prim.Native.Nat.{ℕ}
 use mathlib.Core.Path.{◌≡◌, refl, sym, ap, ◌∙◌}
 use mathlib.Core.List.{List, ◌++◌}
 use mathlib.Core.Option.{some}
-use lib.ListN.{length}
 use native.Mathlib.Omega.{arith}
+use Rattle.length.specs.declared.Reason.{Reason}
 use Rattle.length.specs.Answers.{Answer, done, refused, fitted}
 use Rattle.length.specs.Answers as answers
 use Rattle.length.specs.Tables.{first, refusal_in, room_row}
@@ -15,11 +16,9 @@ use Rattle.datagram.specs.Write.{carried_of, datagram_octets, datagram_writer_ro
 use Rattle.datagram.specs.declared.kind.Kind.{Kind}
 use Rattle.packet.specs.Edition.{Edition, edition_of, of_choice}
 use Rattle.packet.specs.Write.{packet_octets, packet_writer_rows, packet_to_write}
-use Rattle.packet.specs.declared.types.Choice.{Choice}
 use Rattle.packet.specs.declared.types.PacketKind as packets
 use Rattle.packet.specs.declared.types.Named.{Named}
 use Rattle.packet.specs.Promise.{packet_by}
-use Rattle.sender.specs.Sending.{Sending}
 use Rattle.sender.specs.Send.{carried_next}
 use Rattle.sender.specs.Sender.{sending_of}
 use Rattle.sender.specs.Promise.{sender_rows, to_send, StateAfter}
@@ -63,7 +62,7 @@ packet-by : (octet : ℕ) (named : Named) → Names octet named → (kind : pack
     (packet_writer_rows (edition_of named) kind value types lengths octets
     ++ room_row (packet_octets (edition_of named) kind value types lengths octets) old)
 packet-by octet named names kind value types lengths octets old =
-    ap (λ (c : Choice). refusal_in (fitted (of_choice c (λ (e : Edition). packet_to_write e kind value types lengths octets)) old)) names
+    ap (λ (c : Option Named). refusal_in (fitted (of_choice c (λ (e : Edition). packet_to_write e kind value types lengths octets)) old)) names
     ∙ packet-writer (edition_of named) kind value types lengths octets old
 
 line-writer : (line old : List ℕ) → refusal_in (fitted (line_octets line) old) ≡ first (line_rows line ++ room_row (octets_in line) old)
@@ -71,7 +70,7 @@ unfolding line_octets
 line-writer line old = fitted-first (line_rows line) (octets_in line) old
 
 -- what a refusal leaves of a lent buffer
-over-refused : (w : Answer (List ℕ)) (old : List ℕ) (n : ℕ) → refusal_in w ≡ some n → answers.over w old ≡ old
+over-refused : (w : Answer (List ℕ)) (old : List ℕ) (n : Reason) → refusal_in w ≡ some n → answers.over w old ≡ old
 over-refused (done x) old n e = let z : ◌≡◌ {A = ℕ} 0 1 = cc in absurd (omega arith)
 over-refused (refused why) old n e = refl
 
@@ -100,7 +99,7 @@ unfolding to_send
 send_rows s settings packet old =
     fitted-first (sender_rows s settings packet) (datagram_octets (carried_next settings packet (sending_of s))) old
 
-send-refused : (a : Answer (List ℕ)) (s t : Sender) (packet : List ℕ) (n : ℕ) → refusal_in a ≡ some n → StateAfter a s packet t → t ≡ s
+send-refused : (a : Answer (List ℕ)) (s t : Sender) (packet : List ℕ) (n : Reason) → refusal_in a ≡ some n → StateAfter a s packet t → t ≡ s
 send-refused (done x) s t packet n e state = let z : ◌≡◌ {A = ℕ} 0 1 = cc in absurd (omega arith)
 send-refused (refused why) s t packet n e state = state
 

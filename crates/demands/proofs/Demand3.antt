@@ -13,8 +13,8 @@ use Rattle.session.specs.Offer as offers
 use Rattle.session_held.specs.Table.{view_of}
 use Rattle.session_held.specs.declared.Session.{Session}
 use Rattle.session_offer.specs.Outcome.{offered_outcome, accepted_of}
-use Rattle.session_calls.specs.Receiver.{SeenAs, OfferOwes}
-use Rattle.session_calls.specs.declared.receiver.AfterOffer.{AfterOffer}
+use Rattle.session_calls.specs.Receiver.{SeenAs}
+use Rattle.session_calls.specs.declared.Returned.{Returned}
 use Rattle.sender.specs.Honest.{HonestSender}
 use Rattle.demands.specs.Common.History.{after_move, offer}
 use Rattle.demands.specs.Demand3.Feeding.{Near, sent_at, datagram_at, Offers, Fed, fresh, offered, released, solved}
@@ -68,7 +68,7 @@ module _ {row datagrams : List (List ℕ)} where
       record { view = _; seen = solved-seen b.seen owes; fed = solves b.fed (seen-solves b.seen) }
 
   -- a list of accepted or repeated datagrams
-  module _ {view : View} {s : Session} (seen : SeenAs view s) {S : ℕ} {r : AfterOffer} (o : Offers row datagrams S s r) where
+  module _ {view : View} {s : Session} (seen : SeenAs view s) {S : ℕ} {r : Returned (Unit {0})} (o : Offers row datagrams S s r) where
     near-seen : Near S view
     near-seen = subst (Near S) seen.view o.near
 

@@ -3,6 +3,8 @@ use mathlib.Core.Path.{◌≡◌, refl, sym, subst, ◌∙◌}
 use mathlib.Core.Logic.{inl, inr}
 use Prim.Native.Nat.{ℕ}
 use mathlib.Core.List.{List}
+use Rattle.std.specs.Prelude.{⊤, Result, Ok, Err}
+use Rattle.length.specs.declared.Refusal.{Refusal}
 use Rattle.length.specs.Answers.{done}
 use Rattle.length.specs.Claims.{Octets}
 use Rattle.length.proofs.Laws.{not_done, done-same}
@@ -15,8 +17,6 @@ use Rattle.image.specs.Layout.{ImageVersion, image_version01, image_version02}
 use Rattle.image.specs.Image.{image_text, read_text, LentOctets}
 use Rattle.image.specs.Promise.{ImageRead}
 use Rattle.image.specs.Claims.{Short}
-use Rattle.image.specs.declared.Restore.{Restore}
-use Rattle.image.specs.declared.Restore.TheVariants as restore
 use Rattle.image.proofs.Laws.{lent-octets}
 use Rattle.image.proofs.Claims as images
 use Rattle.demands.specs.Demand2.Demand2.{Saved}
@@ -60,10 +60,10 @@ holds-all {s} v small =
     record { saved = v; lent = small; short = (images.claims).editions.holds_all (view_of s) within.sound (lent-octets small) }
 
 -- what reads as a session, however it is held, is answered with it
-answered : {text : List ℕ} {view : View} → read_text text ≡ done view → (t : Session) (a : Restore)
-    → ImageRead text (record { session = t; answer = a }) → (a ≡ restore.Done) × (view_of t ≡ view)
-answered reads t restore.Done read = (refl, done-same (read.answer ∙ reads))
-answered reads t (restore.Refused why) read = absurd (not_done (read.answer ∙ reads))
+answered : {text : List ℕ} {view : View} → read_text text ≡ done view → (t : Session) (a : Result ⊤ Refusal)
+    → ImageRead text (record { session = t; answer = a }) → (a ≡ (Ok tt)) × (view_of t ≡ view)
+answered reads t (Ok tt) read = (refl, done-same (read.answer ∙ reads))
+answered reads t (Err why) read = absurd (not_done (read.answer ∙ reads))
 
 pub editions : Editions
 editions =

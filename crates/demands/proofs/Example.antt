@@ -6,7 +6,7 @@ use mathlib.Core.Bool.{true}
 use mathlib.Core.List.Memᴰ
 use mathlib.Core.List.Memᴰ.{head as here}
 use mathlib.Core.List.Memᴰ.{tail as further}
-use mathlib.Core.List.{List, [], ◌∷◌, Memᴰ as Among}
+use mathlib.Core.List.{[], ◌∷◌, Memᴰ as Among}
 use lib.ListN.{length, get_or}
 use native.Mathlib.Omega.{arith}
 use Rattle.octets.specs.Place.{tab}
@@ -15,7 +15,8 @@ use Rattle.length.specs.Refusals as refusals
 use Rattle.length.specs.Answers.{done, refuse}
 use Rattle.length.specs.Length.{length_at, length_octets, allowed, length_within}
 use Rattle.datagram.specs.Carried.{spares, parity, Carried}
-use Rattle.datagram.specs.Read.{octet_at, item_at, items_at, end_of, spares_at, parity_at, extra_at, number_of, whole_of, read_datagram, carried_by}
+use Rattle.datagram.specs.Read.{octet_at, item_at, items_at, end_of, spares_at, parity_at, extra_at, number_of, whole_of, read_datagram}
+use Rattle.datagram.specs.Read.{carried_by}
 use Rattle.datagram.specs.Write.{number_octets, item_octets, items_octets, counted_octets, datagram_octets}
 use Rattle.session.specs.Cells.{repaired, filled_cell, cell_at, kept_before}
 use Rattle.session.specs.Members.{members_of, InReach}
@@ -26,7 +27,7 @@ use Rattle.session.specs.View.{View, fresh_view}
 use Rattle.session.specs.Offer as offers
 use Rattle.session.specs.Offer.{keep, keep_spares, accept, offered}
 use Rattle.session_held.specs.declared.Session.{Session}
-use Rattle.session_calls.specs.declared.receiver.AfterOffer.{AfterOffer}
+use Rattle.session_calls.specs.declared.Returned.{Returned}
 use Rattle.sender.specs.Send.{packet_inside}
 use Rattle.sender.specs.Carries as carries
 use Rattle.sender.specs.Honest.{packet_at, HonestAt, HonestSender}
@@ -72,12 +73,14 @@ near-fresh S low = record { ahead = omega arith; behind = omega arith }
 
 -- a read datagram, offered
 reads-1 : (view : View) → offers.offer datagram1 view ≡ offered carried1 view
-unfolding offers.offer read_datagram carried_by number_of whole_of extra_at spares_at parity_at items_at item_at length_within octet_at allowed end_of
+unfolding offers.offer read_datagram carried_by number_of whole_of extra_at spares_at parity_at items_at item_at length_within octet_at
+    allowed end_of
     length_at
 reads-1 view = refl
 
 reads-2 : (view : View) → offers.offer datagram2 view ≡ offered carried2 view
-unfolding offers.offer read_datagram carried_by number_of whole_of extra_at spares_at parity_at items_at item_at length_within octet_at allowed end_of
+unfolding offers.offer read_datagram carried_by number_of whole_of extra_at spares_at parity_at items_at item_at length_within octet_at
+    allowed end_of
     length_at
 reads-2 view = refl
 
@@ -116,12 +119,14 @@ all : (S : ℕ) → Among S (2 ∷ []) → Among S (1 ∷ 2 ∷ 1 ∷ [])
 all S among = ⊎_elim (λ same. further (here same)) (λ later. absurd (Memᴰ.not-nil later)) (Memᴰ.cases_cons among)
 
 missing : Unknown only2.cells kept_before
-unfolding fresh_view accept keep keep_spares tab xor_at exclusive_or members_of passing usable first_usable mended fill repair_f repair messages_of
+unfolding fresh_view accept keep keep_spares tab xor_at exclusive_or members_of passing usable first_usable mended fill repair_f repair
+    messages_of
     messages_in_row held_messages
 missing = refl
 
 back : cell_at with12.cells kept_before ≡ filled_cell 2 repaired (0x06 ∷ 0 ∷ 0 ∷ 0 ∷ 0 ∷ 0 ∷ [])
-unfolding fresh_view accept keep keep_spares tab xor_at exclusive_or members_of passing usable first_usable mended fill repair_f repair messages_of
+unfolding fresh_view accept keep keep_spares tab xor_at exclusive_or members_of passing usable first_usable mended fill repair_f repair
+    messages_of
     messages_in_row held_messages
 back = refl
 
@@ -131,7 +136,8 @@ held = refl
 
 -- of the reach of datagram 2, places 32 and 33, the second is known
 known33 : Known with12.cells 33
-unfolding fresh_view accept keep keep_spares tab xor_at exclusive_or members_of passing usable first_usable mended fill repair_f repair messages_of
+unfolding fresh_view accept keep keep_spares tab xor_at exclusive_or members_of passing usable first_usable mended fill repair_f repair
+    messages_of
     messages_in_row held_messages
 known33 = refl
 
@@ -143,7 +149,7 @@ rest p reach other =
     rw is known33
 
 -- ---- the calls
-met : (s : Session) (alone one two three : AfterOffer) → HandedBack s alone one two three → Met s alone.session three.session
+met : (s : Session) (alone one two three : Returned (Unit {0})) → HandedBack s alone one two three → Met s alone.session three.session
 met s alone one two three c =
     let seen = fresh-seen s c.start in
     let alone-is = reads-2 fresh_view ∙ fresh-takes-2 in

@@ -1,6 +1,6 @@
 -- Views of sessions that an honest sender alone feeds: every offer of its datagrams is refused, or accepted at its own place; so all of
 -- them are sound. Assumes nothing.
-use Prim.Native.Nat.{ℕ, ◌+◌, ◌-◌, ◌%◌, ◌≤◌, ◌<◌}
+use Prim.Native.Nat.{ℕ, ◌+◌, ◌%◌, ◌≤◌, ◌<◌}
 use mathlib.Core.Path.{◌≡◌, refl, sym, ap, ap₂, subst, ◌∙◌}
 use mathlib.Core.Bool.{Bool, true, false, cond}
 use mathlib.Core.List.{List}
@@ -11,6 +11,7 @@ use borrow.Author.Tests.{ltb-true}
 use Rattle.length.specs.Refusals as refusals
 use Rattle.length.specs.Answers.{Answer, done, refused, refuse, afterwards}
 use Rattle.length.proofs.Laws.{done-same}
+use Rattle.length.specs.Refusals.{number_of}
 use Rattle.datagram.specs.Carried.{Carried}
 use Rattle.datagram.specs.Read.{carried_by}
 use Rattle.session.specs.Cells.{kept_ahead}
@@ -58,7 +59,7 @@ pub record Again (view : View) (S : ℕ) : Type 0 where
 
 abbrev number_in : {A : Type 0} → Answer A → ℕ
 number_in (done a) = 0
-number_in (refused why) = why.number
+number_in (refused why) = number_of why.reason
 
 -- refused as repeated: near, and accepted before
 offered-again : (c : Carried) (view : View) → offered c view ≡ refuse refusals.repeated

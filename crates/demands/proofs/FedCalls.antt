@@ -1,11 +1,11 @@
 -- The calls of a session that an honest sender feeds are a chain of demand 2's, call by call. Assumes nothing.
 use Prim.Native.Nat.{ℕ}
-use mathlib.Core.Path.{◌≡◌, refl, ap, subst, ◌∙◌}
-use mathlib.Core.List.{List, [], ◌∷◌, ◌++◌, append-nil}
+use mathlib.Core.Path.{refl, subst, ◌∙◌}
+use mathlib.Core.List.{List, ◌∷◌, append-nil}
 use Rattle.session_held.specs.Promise.{Fresh}
 use Rattle.session_held.specs.declared.Session.{Session}
 use Rattle.session_calls.specs.Receiver.{OfferOwes}
-use Rattle.session_calls.specs.declared.receiver.AfterOffer.{AfterOffer}
+use Rattle.session_calls.specs.declared.Returned.{Returned}
 use Rattle.demands.specs.Common.Calls as chain
 use Rattle.demands.specs.Common.Calls.{Calls, start, ◌then◌, Called, offer, left_by}
 use Rattle.demands.specs.Demand3.Feeding.{datagram_at, Offers, Fed, fresh, offered, released, solved, Takes, none, accepted}
@@ -20,7 +20,7 @@ came-by {first} f called =
     record { first = first; fresh = f; called = called; known = known-reached-by (called_on (fresh-seen first f) called) }
 
 module _ {row datagrams : List (List ℕ)} where
-  pub call-of : {S : ℕ} {s : Session} {r : AfterOffer} → Offers row datagrams S s r → OfferOwes s (datagram_at datagrams S) r
+  pub call-of : {S : ℕ} {s : Session} {r : Returned (Unit {0})} → Offers row datagrams S s r → OfferOwes s (datagram_at datagrams S) r
   call-of {s = s} {r = r} o = subst (λ (octets : List ℕ). OfferOwes s octets r) o.one o.call
 
   -- one call more
@@ -31,7 +31,8 @@ module _ {row datagrams : List (List ℕ)} where
   fed-calls (solved f owes) = let c = fed-calls f in (_, came-by c.1.fresh (chain.solved c.1.called owes))
 
   -- ---- a list of accepted or repeated datagrams
-  came-on : {calls : Calls} {S : ℕ} {places : List ℕ} {s t : Session} {r : AfterOffer} → CameBy calls s → Offers row datagrams S s r
+  came-on : {calls : Calls} {S : ℕ} {places : List ℕ} {s t : Session} {r : Returned (Unit {0})} → CameBy calls s
+      → Offers row datagrams S s r
       → (CameBy (calls then offer (datagram_at datagrams S) r.answer) r.session
       → CameOn datagrams (calls then offer (datagram_at datagrams S) r.answer) places t)
       → CameOn datagrams calls (S ∷ places) t

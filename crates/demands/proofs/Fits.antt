@@ -1,4 +1,5 @@
 -- What fits a datagram: whatever is written reads back, and what is over the datagram limit does not read. Assumes nothing.
+use Rattle.std.proofs.Common.{Result, Ok}
 use Prim.Native.Nat.{ℕ, ◌*◌, ◌≤◌}
 use mathlib.Core.Path.{◌≡◌, refl, sym, ap, ◌∙◌}
 use mathlib.Core.List.{List}
@@ -6,12 +7,11 @@ use lib.ListN.{length, take, replicate}
 use lib.Dec.{ltb}
 use native.Mathlib.Omega.{arith}
 use borrow.Author.Tests.{ltb-false}
+use Rattle.length.specs.declared.Refusal.{Refusal}
 use Rattle.length.specs.Refusals.{too_long}
 use Rattle.length.specs.Answers.{done}
 use Rattle.length.specs.Length.{length_octets}
 use Rattle.length.specs.Promise.{Puts}
-use Rattle.length.specs.declared.Written.{Written}
-use Rattle.length.specs.declared.Written.TheVariants as written
 use Rattle.length.proofs.Laws.{cond-done}
 use Rattle.datagram.specs.Sizes.{packet_limit, datagram_limit, spares_limit}
 use Rattle.datagram.specs.Read.{DatagramParts, read_datagram}
@@ -37,8 +37,9 @@ module _ (number : ℕ) (packet : List ℕ) (kind : Kind) (lengths run : List �
       let back = (datagrams.claims).written_reads number packet kind lengths run s e in
       read_short s back.parts back.read
 
-  room : {s old new : List ℕ} {w : Written} → datagram_to_write number packet kind lengths run ≡ done s → datagram_limit ≤ length old
-      → Puts (datagram_to_write number packet kind lengths run) old new w → w ≡ written.Octets (length s)
+  room : {s old new : List ℕ} {w : Result ℕ Refusal} → datagram_to_write number packet kind lengths run ≡ done s
+      → datagram_limit ≤ length old
+      → Puts (datagram_to_write number packet kind lengths run) old new w → w ≡ Ok (length s)
   room {s} e enough puts = (puts_back puts e refl (omega (arith, written-short s e))).answer
 
 -- a packet with all spares, each at the limit
@@ -59,7 +60,7 @@ fits =
     record {
       all_spares = λ number packet run newest all enough puts.
           room number packet kind.Spares all_long run (allowed-written number (long-allowed number packet run newest all)) enough puts
-          ∙ ap written.Octets (long-size number packet run newest all);
+          ∙ ap Ok (long-size number packet run newest all);
       room = room;
       limited = λ number packet kind lengths run {new = new} {n = n} puts e.
           let t = puts-octets puts e in

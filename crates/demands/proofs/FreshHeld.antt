@@ -1,12 +1,11 @@
 -- A fresh session has no packet and no message, so every image version can hold it. Assumes nothing.
-use Prim.Native.Nat.{ℕ, ◌<◌, ◌≤◌}
+use Prim.Native.Nat.{ℕ}
 use mathlib.Core.Path.{◌≡◌, refl, sym, subst}
 use mathlib.Core.Bool.{true}
-use mathlib.Core.List.{[]}
-use lib.ListN.{length, get_or}
-use lib.Dec.{leb, eqb}
+use lib.ListN.{length}
+use lib.Dec.{eqb}
 use native.Mathlib.Omega.{arith}
-use borrow.Author.Tests.{leb-true, eqb-true}
+use borrow.Author.Tests.{eqb-true}
 use Rattle.octets.specs.Place.{all_below}
 use Rattle.octets.proofs.Laws.{all_below-at}
 use Rattle.session.specs.Cells.{cell_at, kept_ahead, kept_numbers}

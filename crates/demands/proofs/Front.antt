@@ -51,7 +51,8 @@ pub record InFront (edition : Edition) (s : List ℕ) : Type 0 where
   pub octets : Octets s → Octets front
   pub reads : refusal_in (read_packet edition Whole front) ≡ none
 
-within-limit : (edition : Edition) (ending : Ending) (s : List ℕ) → refusal_in (read_packet edition ending s) ≡ none → length s ≤ packet_limit
+within-limit : (edition : Edition) (ending : Ending) (s : List ℕ) → refusal_in (read_packet edition ending s) ≡ none
+    → length s ≤ packet_limit
 within-limit edition ending s e = by (below_or_not packet_limit (length s)) where
   by : (packet_limit < length s) ⊎ (length s ≤ packet_limit) → length s ≤ packet_limit
   by (inl over) = absurd (not-both e (over-limit edition ending s over))
@@ -62,7 +63,8 @@ ends_there w due =
     let nothing : length (octets_from w (8 * length w)) ≡ 0 = omega (arith, length-drop (8 * length w / 8) w) in
     record { place = 8 * length w; due = due; follows = eq-eqb (length (octets_from w (8 * length w))) 0 nothing }
 
-pub repaired-front : (named : Named) (s : List ℕ) → refusal_in (read_packet (edition_of named) Repaired s) ≡ none → InFront (edition_of named) s
+pub repaired-front : (named : Named) (s : List ℕ) → refusal_in (read_packet (edition_of named) Repaired s) ≡ none
+    → InFront (edition_of named) s
 repaired-front named s e =
     let fits = within-limit (edition_of named) Repaired s e in
     let t = (passed-ended named Repaired s fits).0 e in

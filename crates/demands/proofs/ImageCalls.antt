@@ -1,22 +1,21 @@
 -- The calls on images: what was written is the session's image, what was read is the very session, what they refuse, and that two answers
 -- to one text are one. Assumes nothing.
+use Rattle.std.proofs.Common.{Result, Ok, Err}
 use Prim.Native.Nat.{ℕ, ◌≤◌}
 use mathlib.Core.Path.{◌≡◌, refl, sym, ap, ap₂, subst, ◌∙◌}
 use mathlib.Core.Logic.Iff
 use mathlib.Core.Logic.{◌↔◌}
 use mathlib.Core.Bool.{Bool, true, false, not}
 use mathlib.Core.List.{List, [], ◌++◌}
+use Rattle.std.specs.Prelude.{⊤, Result, Ok, Err}
 use lib.ListN.{length, drop}
 use lib.Seq.{take-append_seam}
 use native.Mathlib.Omega.{arith}
 use borrow.Author.Tests.{not-false}
-use Rattle.length.specs.Refusals.{refusal, no_room, outside_ranges, bad_image, other_edition}
+use Rattle.length.specs.Refusals.{refusal, no_room, outside_ranges, bad_image, other_edition, number_of}
 use Rattle.length.specs.Answers.{done, refused, refuse, fitted}
 use Rattle.length.specs.Tables.{unless}
-use Rattle.length.specs.Claims.{Octets}
 use Rattle.length.specs.declared.Refusal.{Refusal}
-use Rattle.length.specs.declared.Written.{Written}
-use Rattle.length.specs.declared.Written.TheVariants as written
 use Rattle.length.proofs.Laws.{not_done, done-same, refused-same, unless-past, unless-done, puts-refusal}
 use Rattle.datagram.specs.Sizes.{packet_limit}
 use Rattle.session_held.specs.Table.{lent_by, view_of}
@@ -27,8 +26,6 @@ use Rattle.session_held.proofs.Laws.{session-in-ranges, in-ranges-true, session-
 use Rattle.image.specs.Layout.{image_version02}
 use Rattle.image.specs.Image.{image_text, read_text, image_rows, image_to_write, LentOctets, image_limit}
 use Rattle.image.specs.Promise.{ImageWritten, ImageRead, Restores}
-use Rattle.image.specs.declared.Restore.{Restore}
-use Rattle.image.specs.declared.Restore.TheVariants as restore
 use Rattle.image.specs.declared.Restored.{Restored}
 use Rattle.image.proofs.Laws.{lent-octets, reads02}
 use Rattle.image.proofs.Claims as images
@@ -60,7 +57,8 @@ wrote-image {s} {text} w =
     written_is s text (put.0 ∙ ap done (sym w.unaltered))
 
 -- a session within its ranges is written as its image
-pub to_write : {s : Session} → InRanges (lent_by s) → image_to_write image_version02 (lent_by s) ≡ done (image_text image_version02 (view_of s))
+pub to_write : {s : Session} → InRanges (lent_by s)
+    → image_to_write image_version02 (lent_by s) ≡ done (image_text image_version02 (view_of s))
 unfolding image_to_write unless
 to_write within = rw (in-ranges-true within)
 
@@ -70,10 +68,10 @@ module _ {s : Session} {text : List ℕ} (within : InRanges (lent_by s)) (reads 
   restores-same : {t : Session} → ReadAs text t → t ≡ s
   restores-same {t} read = session-same t s read.state within (done-same (read.answer ∙ reads))
 
-  pub restores : (t : Session) (a : Restore) → ImageRead text (record { session = t; answer = a })
+  pub restores : (t : Session) (a : Result ⊤ Refusal) → ImageRead text (record { session = t; answer = a })
       → record { session = t; answer = a } ≡ restoring s
-  restores t restore.Done read = ap restoring (restores-same read)
-  restores t (restore.Refused why) read = absurd (not_done (read.answer ∙ reads))
+  restores t (Ok tt) read = ap restoring (restores-same read)
+  restores t (Err why) read = absurd (not_done (read.answer ∙ reads))
 
 module _ {s : Session} {text : List ℕ} (within : InRanges (lent_by s)) (small : LentOctets (lent_by s)) (w : Wrote s text) where
   wrote-reads : read_text text ≡ done (view_of s)
@@ -82,7 +80,7 @@ module _ {s : Session} {text : List ℕ} (within : InRanges (lent_by s)) (small 
   pub read_same : {t : Session} → ReadAs text t → t ≡ s
   read_same = restores-same within wrote-reads
 
-  pub reads-back : (t : Session) (a : Restore) → ImageRead text (record { session = t; answer = a })
+  pub reads-back : (t : Session) (a : Result ⊤ Refusal) → ImageRead text (record { session = t; answer = a })
       → record { session = t; answer = a } ≡ restoring s
   reads-back = restores within wrote-reads
 
@@ -104,12 +102,12 @@ every_one {s} v small =
     )
 
 -- ---- the refusals
-octets-refused : {n : ℕ} {why : Refusal} → written.Octets n ≡ written.Refused why → ⊥
+octets-refused : {n : ℕ} {why : Refusal} → Ok n ≡ Err why → ⊥
 octets-refused e = let z : ◌≡◌ {A = ℕ} 0 1 = cc in omega arith
 
 -- with room for any image none is too long
-room-enough : {s : Session} {old new : List ℕ} {w : Written} → Sized s → LentOctets (lent_by s) → ImageWritten s old new w
-    → image_limit packet_limit ≤ length old → w ≡ written.Refused (refusal no_room) → ⊥
+room-enough : {s : Session} {old new : List ℕ} {w : Result ℕ Refusal} → Sized s → LentOctets (lent_by s) → ImageWritten s old new w
+    → image_limit packet_limit ≤ length old → w ≡ Err (refusal no_room) → ⊥
 unfolding image_to_write unless
 room-enough {s} {old} {new} {w} sized small put room is = by (session_in_ranges s) refl where
   by : (b : Bool) → session_in_ranges s ≡ b → ⊥
@@ -122,19 +120,19 @@ room-enough {s} {old} {new} {w} sized small put room is = by (session_in_ranges 
       octets-refused (sym back.answer ∙ is)
   by false e =
       let why : refused (refusal no_room) ≡ refuse outside_ranges = rw (is, e) at put.answer in
-      let z : ◌≡◌ {A = ℕ} no_room outside_ranges = ap (λ (x : Refusal). x.number) (refused-same why) in
+      let z : ◌≡◌ {A = ℕ} 13 17 = ap (λ (x : Refusal). number_of x.reason) (refused-same why) in
       omega arith
 
 -- a refused read, and what the text then reads as
-refused-told : {text : List ℕ} (t : Session) (a : Restore) (why : Refusal) → ImageRead text (record { session = t; answer = a })
-    → (a ≡ restore.Refused why) ↔ (read_text text ≡ refused why)
-refused-told t restore.Done why read = (
+refused-told : {text : List ℕ} (t : Session) (a : Result ⊤ Refusal) (why : Refusal) → ImageRead text (record { session = t; answer = a })
+    → (a ≡ Err why) ↔ (read_text text ≡ refused why)
+refused-told t (Ok x) why read = (
   λ e. let z : ◌≡◌ {A = ℕ} 0 1 = cc in absurd (omega arith),
   λ e. absurd (not_done (sym (read.answer ∙ e))),
 )
-refused-told t (restore.Refused x) why read = (
+refused-told t (Err x) why read = (
   λ e. let same : x ≡ why = cc in sym read.answer ∙ ap refused same,
-  λ e. ap restore.Refused (refused-same (read.answer ∙ e)),
+  λ e. ap Err (refused-same (read.answer ∙ e)),
 )
 
 pub refuses : ImageRefuses
@@ -150,17 +148,17 @@ refuses =
       outside = λ {text} {r} small read.
           Iff.trans (refused-told r.session r.answer (refusal outside_ranges) read) (outside-exactly text small);
       only = λ {text} {r} {why} read is. refused-only text why ((refused-told r.session r.answer why read).0 is);
-      nothing = λ {text} {r} read is. subst (λ (a : Restore). Restores a r.session) is read.state;
+      nothing = λ {text} {r} read is. subst (λ (a : Result ⊤ Refusal). Restores a r.session) is read.state;
     }
 
 -- ---- one outcome
 -- two answers to one text are one: within the ranges a session is told by its view, and a fresh one is one
-pub read_one : {text : List ℕ} (t u : Session) (a b : Restore) → ImageRead text (record { session = t; answer = a })
+pub read_one : {text : List ℕ} (t u : Session) (a b : Result ⊤ Refusal) → ImageRead text (record { session = t; answer = a })
     → ImageRead text (record { session = u; answer = b })
     → ◌≡◌ {A = Restored} (record { session = t; answer = a }) (record { session = u; answer = b })
-read_one t u restore.Done restore.Done x y = ap restoring (session-same t u x.state y.state (done-same (x.answer ∙ sym y.answer)))
-read_one t u restore.Done (restore.Refused why) x y = absurd (not_done (sym (x.answer ∙ sym y.answer)))
-read_one t u (restore.Refused why) restore.Done x y = absurd (not_done (x.answer ∙ sym y.answer))
-read_one t u (restore.Refused why) (restore.Refused other) x y =
-    ap₂ (λ (s : Session) (r : Refusal). record { session = s; answer = restore.Refused r }) (fresh-same t u x.state y.state)
+read_one t u (Ok p) (Ok q) x y = ap restoring (session-same t u x.state y.state (done-same (x.answer ∙ sym y.answer)))
+read_one t u (Ok p) (Err why) x y = absurd (not_done (sym (x.answer ∙ sym y.answer)))
+read_one t u (Err why) (Ok p) x y = absurd (not_done (x.answer ∙ sym y.answer))
+read_one t u (Err why) (Err other) x y =
+    ap₂ (λ (s : Session) (r : Refusal). record { session = s; answer = Err r }) (fresh-same t u x.state y.state)
     (refused-same (x.answer ∙ sym y.answer))

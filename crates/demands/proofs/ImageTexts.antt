@@ -8,11 +8,12 @@ use mathlib.Core.List.{List}
 use lib.Dec.{eqb}
 use native.Mathlib.Omega.{arith}
 use borrow.Author.Tests.{eqb-true, eqb-false}
-use Rattle.length.specs.Refusals.{refusal, outside_ranges, bad_image, other_edition}
+use Rattle.length.specs.Refusals.{refusal, outside_ranges, bad_image, other_edition, number_of}
 use Rattle.length.specs.Answers.{Answer, done, refused, refuse}
 use Rattle.length.specs.Claims.{Octets}
 use Rattle.length.specs.declared.Refusal.{Refusal}
 use Rattle.length.proofs.Laws.{not_done, refused-same}
+use Rattle.length.specs.declared.Reason.{Reason}
 use Rattle.line.specs.Hex.{hex_of, digit_of, digit_for}
 use Rattle.session.specs.View.{View}
 use Rattle.session.specs.Ranges.{in_ranges, Sound}
@@ -99,9 +100,9 @@ done-named text view e = by (naming text) where
   by (other o) = absurd (not_done (sym o ∙ e))
 
 -- ---- its refusals
--- two refusals are one, so their numbers are
-number_same : {A : Type 0} {n m : ℕ} → ◌≡◌ {A = Answer A} (refuse n) (refuse m) → n ≡ m
-number_same e = ap (λ (why : Refusal). why.number) (refused-same e)
+-- two refusals are one, so their reasons are
+reason_same : {A : Type 0} {n m : Reason} → ◌≡◌ {A = Answer A} (refuse n) (refuse m) → n ≡ m
+reason_same e = ap (λ (why : Refusal). why.reason) (refused-same e)
 
 pub refused-only : (text : List ℕ) (why : Refusal) → read_text text ≡ refused why
     → (why ≡ refusal other_edition) ⊎ ((why ≡ refusal bad_image) ⊎ (why ≡ refusal outside_ranges))
@@ -146,7 +147,7 @@ module _ (text : List ℕ) (small : Octets text) where
         let says = (images.claims).reads.misshapen edition text (octet-small edition is) small in
         let nobody = says.0 (sym (reads-named text edition is n) ∙ e) in
         inr (edition, is, n, λ view i. nobody view i.holds i.written)
-    by e (other o) = let z : other_edition ≡ bad_image = number_same (sym o ∙ e) in absurd (omega arith)
+    by e (other o) = let z = ap number_of (reason_same (sym o ∙ e)) in absurd (omega arith)
 
   pub outside-exactly : (read_text text ≡ refuse outside_ranges)
       ↔ ((edition : ImageVersion) × IsRead edition × (view : View) × ImageOf edition text view × (in_ranges view ≡ false))
@@ -159,9 +160,9 @@ module _ (text : List ℕ) (small : Octets text) where
   ) where
     by : read_text text ≡ refuse outside_ranges → Naming text
         → (edition : ImageVersion) × IsRead edition × (view : View) × ImageOf edition text view × (in_ranges view ≡ false)
-    by e (none n) = let z : bad_image ≡ outside_ranges = number_same (sym (reads_none text n) ∙ e) in absurd (omega arith)
+    by e (none n) = let z = ap number_of (reason_same (sym (reads_none text n) ∙ e)) in absurd (omega arith)
     by e (ours edition is n) =
         let says = (images.claims).reads.outside edition text (octet-small edition is) small in
         let x = says.0 (sym (reads-named text edition is n) ∙ e) in
         (edition, is, x.0, record { holds = x.1; written = x.2 }, x.3)
-    by e (other o) = let z : other_edition ≡ outside_ranges = number_same (sym o ∙ e) in absurd (omega arith)
+    by e (other o) = let z = ap number_of (reason_same (sym o ∙ e)) in absurd (omega arith)

@@ -2,7 +2,7 @@
 -- them. Assumes nothing.
 use Prim.Native.Nat.{ℕ, suc, ◌+◌, ◌-◌, ◌%◌, ◌≤◌, ◌<◌}
 use mathlib.Core.Path.{◌≡◌, refl, sym, ap, subst, ◌∙◌}
-use mathlib.Core.Logic.{◌⊎◌, ⊎_elim}
+use mathlib.Core.Logic.{⊎_elim}
 use mathlib.Core.Bool.{true}
 use mathlib.Core.List.{List, ◌++◌, map}
 use lib.ListN.{length, get_or, set, replicate, length-set, length-map, length-replicate, get_or-replicate, get_or-append}
@@ -19,7 +19,8 @@ use Rattle.datagram.specs.Read.{DatagramParts, octets_of, read_datagram, carried
 use Rattle.datagram.specs.declared.kind.Kind.{Kind}
 use Rattle.datagram.specs.declared.kind.Kind.TheVariants as kind
 use Rattle.datagram.proofs.Laws.{read-inside}
-use Rattle.session.specs.Cells.{State, unknown, received, blank, Cell, blank_cell, unknown_cell, cell_at, kept_before, kept_ahead, kept_numbers}
+use Rattle.session.specs.Cells.{State, unknown, received, blank, Cell, blank_cell, unknown_cell, cell_at, kept_before, kept_ahead}
+use Rattle.session.specs.Cells.{kept_numbers}
 use Rattle.session.specs.Held.{Held, nothing_held, held_at, held_messages}
 use Rattle.session.specs.Reached.{DistinctMembers}
 use Rattle.session.proofs.Laws.{held-distinct, reach-kept}

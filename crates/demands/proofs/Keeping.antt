@@ -4,7 +4,7 @@ use Prim.Native.Nat.{ℕ, suc, ◌+◌, ◌-◌, ◌%◌, ◌≤◌, ◌<◌}
 use mathlib.Core.Path.{◌≡◌, refl, sym, ap, ap₂, subst, ◌∙◌}
 use mathlib.Core.Logic.{⊎_elim}
 use mathlib.Core.List.{List, [], ◌∷◌, ◌++◌, append-nil}
-use lib.ListN.{length, length-append, get_or, get_or-append}
+use lib.ListN.{length, length-append, get_or-append}
 use lib.Seq.{get_or_at}
 use native.Mathlib.Omega.{arith}
 use Rattle.octets.proofs.Laws.{below_or_not}
@@ -22,7 +22,7 @@ use Rattle.session_held.specs.declared.Session.{Session}
 use Rattle.session_calls.specs.Receiver.{SeenAs}
 use Rattle.demands.specs.Common.History as moves
 use Rattle.demands.specs.Common.History.{Move, Left, left_as, after_move}
-use Rattle.demands.specs.Common.Calls.{Call, Calls, Called, left_in, left_by}
+use Rattle.demands.specs.Common.Calls.{Calls, Called, left_by}
 use Rattle.demands.specs.Demand2.GoesOn.{move_of, GoesOn, from, by}
 use Rattle.demands.specs.Demand2.Demand2.{StaysKnown}
 use Rattle.demands.proofs.Ranges.{ViewInRanges}

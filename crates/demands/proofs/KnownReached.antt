@@ -1,5 +1,7 @@
 -- In a session fresh at its start the known numbers are exactly those that the calls reached: call by call, each of which did
 -- nothing, took a datagram, made a number leave, or solved the held messages together. Assumes nothing.
+use Rattle.std.proofs.Common.{Result, Ok, Err}
+use Rattle.length.specs.declared.Refusal.{Refusal}
 use Prim.Native.Nat.{ℕ, suc, ◌+◌, ◌<◌}
 use mathlib.Core.Path.{◌≡◌, refl, sym, ap, subst, ◌∙◌}
 use mathlib.Core.Logic.{◌↔◌}
@@ -19,15 +21,10 @@ use Rattle.session.proofs.Laws.{release-leaves}
 use Rattle.session_held.specs.Table.{state_of}
 use Rattle.session_release.specs.Outcome.{Handed, released_outcome, handed_of}
 use Rattle.session_release.specs.declared.Released.{Released}
-use Rattle.session_release.specs.declared.Released.TheVariants as answer
 use Rattle.session_offer.specs.Outcome.{offered_outcome, accepted_of}
-use Rattle.session_offer.specs.declared.Offered.{Offered}
-use Rattle.session_offer.specs.declared.Offered.TheVariants as outcome
 use Rattle.solve.specs.Solved.{SolvedTo, Solves}
 use Rattle.solve.specs.Solve as solutions
 use Rattle.solve_code.specs.Outcome.{solved_outcome, filled_of}
-use Rattle.solve_code.specs.declared.Solved.{Solved}
-use Rattle.solve_code.specs.declared.Solved.TheVariants as filling
 use Rattle.demands.specs.Common.History.{Left, left_as, after_move}
 use Rattle.demands.specs.Common.Calls.{Call, offer, release, solve, Calls, ◌then◌, accepted_in, fills_in, left_in}
 use Rattle.demands.specs.Demand2.GoesOn.{move_of, Says, GoesOn, from, by}
@@ -55,33 +52,34 @@ pub data Did (view : View) (call : Call) : View → Type 0 where
 pub did : (view : View) (call : Call) → ViewInRanges view → Says view call → Did view call (after_move (move_of call) view)
 unfolding after_move
 did view (offer octets r) ranges says = pick (offers.offer octets view) refl r says where
-  pick : (a : Answer View) → offers.offer octets view ≡ a → (r : Offered) → offered_outcome r ≡ accepted_of a
+  pick : (a : Answer View) → offers.offer octets view ≡ a → (r : Result (Unit {0}) Refusal) → offered_outcome r ≡ accepted_of a
       → Did view (offer octets r) (afterwards a view)
-  pick (done v) e outcome.Accepted s = took octets refl refl (offer-done octets view v e)
-  pick (done v) e (outcome.Refused why) s = let z : ◌≡◌ {A = ℕ} 0 1 = cc in absurd (omega arith)
-  pick (refused x) e outcome.Accepted s = let z : ◌≡◌ {A = ℕ} 0 1 = cc in absurd (omega arith)
-  pick (refused x) e (outcome.Refused why) s = nothing refl refl false≢true
+  pick (done v) e (Ok x) s = took octets refl refl (offer-done octets view v e)
+  pick (done v) e (Err why) s = let z : ◌≡◌ {A = ℕ} 0 1 = cc in absurd (omega arith)
+  pick (refused x) e (Ok y) s = let z : ◌≡◌ {A = ℕ} 0 1 = cc in absurd (omega arith)
+  pick (refused x) e (Err why) s = nothing refl refl false≢true
 did view (release leave old new r) ranges says = pick (releases.release leave (length old) view) refl r says.0 where
-  pick : (a : Answer Release) → releases.release leave (length old) view ≡ a → (r : Released) → released_outcome r ≡ handed_of a
+  pick : (a : Answer Release) → releases.release leave (length old) view ≡ a → (r : Result Released Refusal)
+      → released_outcome r ≡ handed_of a
       → Did view (release leave old new r) (afterwards (view_after_release a) view)
-  pick (done a) e (answer.Number kind number note size) s =
+  pick (done a) e (Ok left) s =
       let o = release-leaves leave (length old) view a e in
-      let same : ◌≡◌ {A = Handed} (record { kind = state_of kind; number = number; note = note; size = size })
+      let same : ◌≡◌ {A = Handed} (record { kind = state_of left.kind; number = left.number; note = left.note; size = left.size })
       (record { kind = a.kind; number = a.number; note = a.note; size = length a.octets }) = cc in
       let word = ap (λ (x : Handed). x.kind) same ∙ o.kind in
       let filler = ap (λ (x : Handed). x.note) same ∙ o.note in
-      subst (Did view (release leave old new (answer.Number kind number note size))) (sym o.after)
-      (leaves (left_as (state_of kind) number note (take size new)) _ refl word filler refl (moved_sum view ranges))
-  pick (done a) e (answer.Refused why) s = let z : ◌≡◌ {A = ℕ} 0 1 = cc in absurd (omega arith)
-  pick (refused x) e (answer.Number kind number note size) s = let z : ◌≡◌ {A = ℕ} 0 1 = cc in absurd (omega arith)
-  pick (refused x) e (answer.Refused why) s = nothing refl refl false≢true
+      subst (Did view (release leave old new (Ok left))) (sym o.after)
+      (leaves (left_as (state_of left.kind) left.number left.note (take left.size new)) _ refl word filler refl (moved_sum view ranges))
+  pick (done a) e (Err why) s = let z : ◌≡◌ {A = ℕ} 0 1 = cc in absurd (omega arith)
+  pick (refused x) e (Ok left) s = let z : ◌≡◌ {A = ℕ} 0 1 = cc in absurd (omega arith)
+  pick (refused x) e (Err why) s = nothing refl refl false≢true
 did view (solve r) ranges says = pick (solutions.solve view) refl r says.0 says.1 where
-  pick : (a : Answer View) → solutions.solve view ≡ a → (r : Solved) → solved_outcome r ≡ filled_of a → Solves view a
+  pick : (a : Answer View) → solutions.solve view ≡ a → (r : Result (Unit {0}) Refusal) → solved_outcome r ≡ filled_of a → Solves view a
       → Did view (solve r) (afterwards a view)
-  pick (done v) e filling.Filled s means = solves refl refl refl (solve-done view v e) means
-  pick (done v) e (filling.Refused why) s means = let z : ◌≡◌ {A = ℕ} 0 1 = cc in absurd (omega arith)
-  pick (refused x) e filling.Filled s means = let z : ◌≡◌ {A = ℕ} 0 1 = cc in absurd (omega arith)
-  pick (refused x) e (filling.Refused why) s means = nothing refl refl false≢true
+  pick (done v) e (Ok x) s means = solves refl refl refl (solve-done view v e) means
+  pick (done v) e (Err why) s means = let z : ◌≡◌ {A = ℕ} 0 1 = cc in absurd (omega arith)
+  pick (refused x) e (Ok y) s means = let z : ◌≡◌ {A = ℕ} 0 1 = cc in absurd (omega arith)
+  pick (refused x) e (Err why) s means = nothing refl refl false≢true
 
 -- an accepted offer solves nothing, nor does a call by which a number leaves
 pub took-unfilled : (call : Call) {octets : List ℕ} → accepted_in call ≡ some octets → fills_in call ≡ true → ⊥

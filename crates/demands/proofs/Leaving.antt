@@ -10,7 +10,7 @@ use mathlib.Core.List.{Memᴰ as Among}
 use lib.ListN.{length, length-append}
 use native.Mathlib.Omega.{arith}
 use Rattle.octets.specs.Place.{tab}
-use Rattle.octets.proofs.Laws.{tab-ext, tab-more}
+use Rattle.octets.proofs.Laws.{tab-more}
 use Rattle.session.specs.View.{View, Counts, sum, numbers, following, fresh_view}
 use Rattle.session.specs.Cells.{State, unknown, received, spare, repaired, blank}
 use Rattle.demands.specs.Common.History.{Left, left_as, is_received, is_spare, is_repaired, is_lost, after_move, how_many}

@@ -1,5 +1,6 @@
 -- Solving with an honest sender, of sessions and the public calls. What an honest sender sent satisfies all equations, so that the call is
 -- never refused; of two sessions the one that knows and holds more allows no more values. Assumes nothing.
+use Rattle.std.proofs.Common.{Ok}
 use Prim.Native.Nat.{ℕ, ◌+◌}
 use mathlib.Core.Path.{◌≡◌, refl, sym, ap, ◌∙◌, subst}
 use mathlib.Core.Logic.{⊎_elim}
@@ -9,7 +10,7 @@ use Rattle.octets.proofs.Laws.{below_or_not}
 use Rattle.session.specs.Cells.{Cell, kept_numbers}
 use Rattle.session.specs.Held.{held_messages}
 use Rattle.session.specs.Honest.{TrueCells}
-use Rattle.session.specs.View.{View, sum}
+use Rattle.session.specs.View.{sum}
 use Rattle.session_held.specs.Table.{view_of}
 use Rattle.session_held.specs.declared.Session.{Session}
 use Rattle.session_held.proofs.Laws.{in-ranges-true}
@@ -17,11 +18,10 @@ use Rattle.solve.specs.Equations.{padded, Solvable}
 use Rattle.solve.specs.Solved.{SolvedTo}
 use Rattle.solve.specs.Claims.{Wider}
 use Rattle.solve.proofs.Laws.{padded-same, one_known, sent, sent-solution, honest-fill, solved-right, no_less, together-one}
-use Rattle.solve_code.specs.declared.Solved.TheVariants as answer
 use Rattle.sender.specs.Honest.{HonestSender, packet_at}
 use Rattle.session_calls.specs.Receiver.{SeenAs}
 use Rattle.session_calls.specs.Solver.{SolveOwes}
-use Rattle.session_calls.specs.declared.solver.AfterSolve.{AfterSolve}
+use Rattle.session_calls.specs.declared.Returned.{Returned}
 use Rattle.session_calls.proofs.SolverClaims as solver
 use Rattle.demands.specs.Demand3.Feeding.{place_of, sent_at, Fed}
 use Rattle.demands.specs.Demand3.Demand3.{TwoLists}
@@ -33,11 +33,11 @@ use Rattle.demands.proofs.Lists.{Less, messages-among, views-less}
 use Rattle.demands.proofs.Demand3.{fed-seen, takes-seen, takes-fed}
 
 -- ---- what the call came to, where some octets satisfy all equations
-record Came (s : Session) (r : AfterSolve) : Type 0 where
-  filled : r.answer ≡ answer.Filled
+record Came (s : Session) (r : Returned (Unit {0})) : Type 0 where
+  filled : r.answer ≡ Ok tt
   solved : SolvedTo (view_of s) (view_of r.session)
 
-came : (s : Session) (r : AfterSolve) → SeenAs (view_of s) s → SolveOwes s r
+came : (s : Session) (r : Returned (Unit {0})) → SeenAs (view_of s) s → SolveOwes s r
     → Solvable (view_of s).cells (held_messages (view_of s).held) → Came s r
 came s r seen owes some =
     let filled = ((solver.claims).answers.filled s r owes).1 (in-ranges-true seen.within, some) in
@@ -58,22 +58,22 @@ module _ {row datagrams : List (List ℕ)} (honest : HonestSender row datagrams)
         sound = subst (Sound row datagrams) (sym b.seen.view) (fed-sound honest b.fed);
       }
 
-  fed-came : {s : Session} {r : AfterSolve} → SeenSound s → SolveOwes s r → Came s r
+  fed-came : {s : Session} {r : Returned (Unit {0})} → SeenSound s → SolveOwes s r → Came s r
   fed-came {s} {r} b owes =
       let h = honest-view honest b.sound in
       came s r b.seen owes
       (sent (sent_at row (view_of s)) _ _ h, sent-solution (sent_at row (view_of s)) _ _ h)
 
   -- the base has not moved, so that the sender's packets stand where they stood
-  same_sent : {s : Session} {r : AfterSolve} → Came s r → sent_at row (view_of r.session) ≡ sent_at row (view_of s)
+  same_sent : {s : Session} {r : Returned (Unit {0})} → Came s r → sent_at row (view_of r.session) ≡ sent_at row (view_of s)
   same_sent c = ap (λ n. λ (p : ℕ). packet_at row (sum n + p)) c.solved.counts
 
-  pub fed-same-sent : {s : Session} {r : AfterSolve} → Fed row datagrams s → SolveOwes s r
+  pub fed-same-sent : {s : Session} {r : Returned (Unit {0})} → Fed row datagrams s → SolveOwes s r
       → sent_at row (view_of r.session) ≡ sent_at row (view_of s)
   fed-same-sent f owes = same_sent (fed-came (seen-sound f) owes)
 
   -- ---- two lists that the call ends
-  module _ {one two : Session} {r q : AfterSolve} (a : SeenSound one) (b : SeenSound two) (less : Less (view_of one) (view_of two))
+  module _ {one two : Session} {r q : Returned (Unit {0})} (a : SeenSound one) (b : SeenSound two) (less : Less (view_of one) (view_of two))
       (c : Came one r) (d : Came two q) where
     place_same : place_of (view_of one) ≡ place_of (view_of two)
     place_same = ap sum less.counts

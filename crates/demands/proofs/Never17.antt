@@ -9,12 +9,13 @@ use lib.ListN.{length, get_or, drop}
 use lib.Dec.{leb, ltb, eqb}
 use native.Mathlib.Omega.{arith}
 use borrow.Author.Tests.{ltb-true}
-use Rattle.length.specs.Refusals.{ends_early, too_long, bad_form, outside_sizes, spare_bit, left_over}
+use Rattle.length.specs.Refusals.{ends_early, too_long, bad_form, outside_sizes, spare_bit, left_over, number_of}
 use Rattle.length.specs.Refusals.{repeated, too_far, late, base_unknown, no_room, all_passed, outside_ranges, no_solution}
 use Rattle.length.specs.Answers.{Answer, done, refused, refuse, refuse_at, read_from, ◌>>=◌, LengthAnswer}
 use Rattle.length.specs.Length.{of_two, length_at, within, allowed, length_within}
 use Rattle.length.specs.declared.Refusal.{Refusal}
-use Rattle.datagram.specs.Read.{ExtraHead, length_from, octet_at, item_at, items_at, spares_at, parity_at, extra_at, whole_of, read_datagram}
+use Rattle.datagram.specs.Read.{ExtraHead, length_from, octet_at, item_at, items_at, spares_at, parity_at, extra_at, whole_of}
+use Rattle.datagram.specs.Read.{read_datagram}
 use Rattle.datagram.specs.Sizes.{datagram_limit}
 use Rattle.datagram.specs.Read.{carried_by, after, end_of, least_of, most_of}
 use Rattle.datagram.specs.Read as reading
@@ -30,6 +31,7 @@ use Rattle.session_held.specs.declared.Session.{Session}
 use Rattle.session_release.specs.Outcome.{handed_of}
 use Rattle.session_offer.specs.Outcome.{accepted_of}
 use Rattle.length.specs.Tables.{refusal_in}
+use Rattle.length.specs.declared.Reason.{Reason}
 use Rattle.solve.specs.Solve as solutions
 use Rattle.solve_code.specs.Outcome.{filled_of}
 use Rattle.demands.specs.Common.Calls.{Call, offer, release, solve, Calls, ◌then◌, Called, call_refusal}
@@ -40,10 +42,10 @@ use Rattle.demands.proofs.Calling.{begins-seen, called_on}
 -- ---- lower refusals only
 data Lower {A : Type 0} : Answer A → Type 0 where
   value : (a : A) → Lower (done a)
-  below : {why : Refusal} → why.number < outside_ranges → Lower (refused why)
+  below : {why : Refusal} → number_of why.reason < number_of outside_ranges → Lower (refused why)
 
-low : {A : Type 0} {place : ℕ} (n : ℕ) → ltb n outside_ranges ≡ true → Lower {A = A} (refuse_at place n)
-low n e = below (ltb-true n outside_ranges e)
+low : {A : Type 0} {place : ℕ} (n : Reason) → ltb (number_of n) (number_of outside_ranges) ≡ true → Lower {A = A} (refuse_at place n)
+low n e = below (ltb-true (number_of n) (number_of outside_ranges) e)
 
 lower_cond : {A : Type 0} (b : Bool) {x y : Answer A} → Lower x → Lower y → Lower (cond b x y)
 lower_cond true first second = first
@@ -59,7 +61,7 @@ lower-from start (below low) = below low
 
 not-17 : {A : Type 0} {a : Answer A} → Lower a → refusal_in a ≡ some outside_ranges → ⊥
 not-17 (value a) e = none-ne-some outside_ranges e
-not-17 (below {why = why} low) e = let same = some-injective why.number outside_ranges e in omega arith
+not-17 (below {why = why} low) e = let same = ap number_of (some-injective why.reason outside_ranges e) in omega arith
 
 -- ---- reading a datagram
 lower-length : (s : List ℕ) → Lower (length_at s)
@@ -162,7 +164,7 @@ lower-handed (below low) = below low
 -- solving is refused with 23 alone
 refused-23 : (b : Bool) (v : View) → refusal_in (filled_of (cond b (done v) (refuse no_solution))) ≡ some outside_ranges → ⊥
 refused-23 true v e = none-ne-some outside_ranges e
-refused-23 false v e = let same = some-injective no_solution outside_ranges e in omega arith
+refused-23 false v e = let same = ap number_of (some-injective no_solution outside_ranges e) in omega arith
 
 solve-not-17 : (view : View) → refusal_in (filled_of (solutions.solve view)) ≡ some outside_ranges → ⊥
 unfolding solutions.solve
@@ -174,7 +176,8 @@ says-lower view (release leave old new r) says = not-17 (subst Lower (sym says.0
 says-lower view (solve r) says = λ e. solve-not-17 view (ap refusal_in (sym says.0) ∙ e)
 
 -- ---- chains
-last_says : {view : View} {calls : Calls} {call : Call} {held : View} → GoesOn view (calls then call) held → call_refusal call ≡ some outside_ranges
+last_says : {view : View} {calls : Calls} {call : Call} {held : View} → GoesOn view (calls then call) held
+    → call_refusal call ≡ some outside_ranges
     → ⊥
 last_says (by {call = call} {held = held} on says) = says-lower held call says
 

@@ -1,5 +1,6 @@
 -- No call on a datagram reads inside a packet: the writers' tables and sizes know lengths alone, and an offer's answer the number
 -- alone. Assumes nothing.
+use Rattle.std.proofs.Common.{Result}
 use Prim.Native.Nat.{ℕ, ◌+◌, ◌<◌}
 use mathlib.Core.Path.{◌≡◌, refl, sym, ap, ap₂, subst, ◌∙◌}
 use mathlib.Core.Bool.{Bool, true, false, cond}
@@ -14,9 +15,11 @@ use Rattle.length.specs.Tables.{first, unless}
 use Rattle.length.specs.declared.Refusal.{Refusal}
 use Rattle.length.proofs.Claims.{written-told}
 use Rattle.length.proofs.Laws.{unless-first, done_none}
+use Rattle.length.specs.declared.Reason.{Reason}
 use Rattle.datagram.specs.Carried.{Carried}
 use Rattle.datagram.specs.Read.{DatagramParts, read_datagram, carried_by}
-use Rattle.datagram.specs.Write.{number_octets, item_octets, extra_octets, carried_of, datagram_octets, datagram_writer_rows, datagram_to_write}
+use Rattle.datagram.specs.Write.{number_octets, item_octets, extra_octets, carried_of, datagram_octets, datagram_writer_rows}
+use Rattle.datagram.specs.Write.{datagram_to_write}
 use Rattle.datagram.specs.Promise.{datagram_read}
 use Rattle.datagram.specs.Inner.Heads.{item_size}
 use Rattle.datagram.specs.declared.kind.Kind.{Kind}
@@ -31,9 +34,8 @@ use Rattle.session_held.specs.Laid.{session_in_ranges}
 use Rattle.session_held.specs.declared.Session.{Session}
 use Rattle.session_offer.specs.Outcome.{accepted_of}
 use Rattle.session_held.specs.Promise.{Fresh}
-use Rattle.session_offer.specs.declared.Offered.{Offered}
 use Rattle.session_calls.specs.Receiver.{OfferOwes, offer_of}
-use Rattle.session_calls.specs.declared.receiver.AfterOffer.{AfterOffer}
+use Rattle.session_calls.specs.declared.Returned.{Returned}
 use Rattle.session_offer.proofs.Laws.{offered-told}
 use Rattle.sender.specs.Send.{carried_next}
 use Rattle.sender.specs.Sender.{sending_of}
@@ -58,7 +60,7 @@ fitted-size x old = pick (leb (length x) (length old)) where
   pick true = refl
   pick false = refl
 
-size_same : (rows : List (Option ℕ)) (x y old other : List ℕ) → (first rows ≡ none → length x ≡ length y) → length old ≡ length other
+size_same : (rows : List (Option Reason)) (x y old other : List ℕ) → (first rows ≡ none → length x ≡ length y) → length old ≡ length other
     → size_of (fitted (unless rows x) old) ≡ size_of (fitted (unless rows y) other)
 unfolding unless first
 size_same [] x y old other same room = fitted-size x old ∙ ap₂ roomed (same refl) room ∙ sym (fitted-size y other)
@@ -158,20 +160,20 @@ offer-same : (session : Session) {s t : List ℕ} → AlikeButOctets s t → acc
 unfolding offer_of
 offer-same session {s} {t} a = in-ranges-as (session_in_ranges session) _ _ (view-same a (view_of session))
 
-answers-same : {session : Session} {s t : List ℕ} → AlikeButOctets s t → {r q : AfterOffer} → OfferOwes session s r
+answers-same : {session : Session} {s t : List ℕ} → AlikeButOctets s t → {r q : Returned (Unit {0})} → OfferOwes session s r
     → OfferOwes session t q → r.answer ≡ q.answer
 answers-same {session} a {r} {q} p t = offered-told r.answer q.answer (p.answer ∙ offer-same session a ∙ sym t.answer)
 
 -- ---- the numbers that are then known
 known_as : {first session : Session} {calls : Calls} → Fresh first → Called first calls session → {s t : List ℕ} → AlikeButOctets s t
-    → {r q : AfterOffer} → OfferOwes session s r → OfferOwes session t q → (p : ℕ) → p < kept_numbers
+    → {r q : Returned (Unit {0})} → OfferOwes session s r → OfferOwes session t q → (p : ℕ) → p < kept_numbers
     → Known (view_of r.session).cells p → Known (view_of q.session).cells p
 unfolding left_by
 known_as {calls = calls} fresh called {s} {t} a {r} {q} owes other p small known =
     let reached = (demand-2.known_numbers fresh (offered called owes) p small).0 known in
     let answer = answers-same a owes other in
     (demand-2.known_numbers fresh (offered called other) p small).1
-    (subst (λ (x : Offered). ReachedBy (calls then offer t x) (gone (calls then offer t x) + p)) answer
+    (subst (λ (x : Result (Unit {0}) Refusal). ReachedBy (calls then offer t x) (gone (calls then offer t x) + p)) answer
     (reached-alike calls s t r.answer (alike-reads a) (alike-long a) reached))
 
 pub not-inside : NotInside

@@ -1,7 +1,7 @@
 -- In a session fresh at its start the note of a known number is the number of the datagram by whose offer the number was reached first, and
 -- so it leaves; one that the held messages fixed together has none. Call by call, each of which did nothing, took a datagram, made a
 -- number leave, or solved the held messages. Assumes nothing.
-use Prim.Native.Nat.{ℕ, suc, ◌+◌, ◌-◌, ◌≤◌, ◌<◌}
+use Prim.Native.Nat.{ℕ, suc, ◌+◌, ◌≤◌, ◌<◌}
 use mathlib.Core.Path.{◌≡◌, refl, sym, ap, subst, ◌∙◌}
 use mathlib.Core.Logic.{⊎_elim}
 use mathlib.Core.Bool.{true, false, false≢true}

@@ -1,5 +1,6 @@
 -- Two outcomes of a call that serves callers inside this repository are one. Most promises are equations. Assumes
 -- nothing.
+use Rattle.std.proofs.Common.{Result, Ok, Err}
 use Prim.Native.Nat.{ℕ, ◌%◌, ◌<◌}
 use mathlib.Core.Path.{◌≡◌, refl, sym, ap, subst, ◌∙◌}
 use mathlib.Core.Logic.{⊎_elim}
@@ -8,16 +9,14 @@ use lib.ListN.{length, get_or, take}
 use lib.Seq.{ext_get_or, get_or-take}
 use native.Mathlib.Omega.{arith}
 use Rattle.octets.proofs.Laws.{below_or_not}
+use Rattle.length.specs.declared.Refusal.{Refusal}
 use Rattle.length.specs.Answers.{Answer}
 use Rattle.length.specs.Promise.{Puts, Put}
-use Rattle.length.specs.declared.Written.{Written}
-use Rattle.length.specs.declared.Written.TheVariants as written
 use Rattle.length.proofs.Claims as lengths
 use Rattle.datagram.specs.declared.kind.Kind.{Kind}
 use Rattle.session_slots.specs.Store.{zeros}
 use Rattle.session_slots.proofs.Laws.{length-zeros, zeros-at, zeros_past-zeros}
 use Rattle.session.specs.View.{numbers}
-use Rattle.session_held.specs.Table.{lent}
 use Rattle.sender.specs.Sender.{history_octets}
 use Rattle.sender.specs.Inner.Held.{Sizes, Stored}
 use Rattle.sender.specs.Inner.Items.{ItemsSize}
@@ -121,20 +120,20 @@ items-size-one kind count number lengths sizes r q a b =
     let stored = empty-stored lengths sizes in
     a.answer (zeros history_octets) stored ∙ sym (b.answer (zeros history_octets) stored)
 
-history-one : (w : Written) (number : ℕ) (packet lengths o new_s new_o other_s other_o : List ℕ)
+history-one : (w : Result ℕ Refusal) (number : ℕ) (packet lengths o new_s new_o other_s other_o : List ℕ)
     → HistoryAfter w number packet lengths o new_s new_o → HistoryAfter w number packet lengths o other_s other_o
     → (new_s ≡ other_s) × (new_o ≡ other_o)
-history-one (written.Octets n) number packet lengths o new_s new_o other_s other_o a b =
+history-one (Ok n) number packet lengths o new_s new_o other_s other_o a b =
     (a.size ∙ sym b.size, a.octets ∙ sym b.octets)
-history-one (written.Refused why) number packet lengths o new_s new_o other_s other_o a b = (a.0 ∙ sym b.0, a.1 ∙ sym b.1)
+history-one (Err why) number packet lengths o new_s new_o other_s other_o a b = (a.0 ∙ sym b.0, a.1 ∙ sym b.1)
 
-module _ {sent : ℕ} {settings : Settings} {packet lengths o old : List ℕ} {r q : Written} {new_s new_o new other_s other_o other : List ℕ}
+module _ {sent : ℕ} {settings : Settings} {packet lengths o old : List ℕ} {r q : Result ℕ Refusal} {new_s new_o new other_s other_o other : List ℕ}
     (a : SendsHeld sent settings packet lengths o old new_s new_o new r)
     (b : SendsHeld sent settings packet lengths o old other_s other_o other q) where
   send-one : (SameHistory r q new_s other_s new_o other_o) × (new ≡ other)
   send-one =
       let puts = puts_one new other r q a.puts b.puts in
-      let after = subst (λ (w : Written). HistoryAfter w (sent % numbers) packet lengths o other_s other_o) (sym puts.0) b.history in
+      let after = subst (λ (w : Result ℕ Refusal). HistoryAfter w (sent % numbers) packet lengths o other_s other_o) (sym puts.0) b.history in
       let kept = history-one r (sent % numbers) packet lengths o new_s new_o other_s other_o a.history after in
       (record { answer = puts.0; lengths = kept.0; octets = kept.1 }, puts.1)
 

@@ -1,5 +1,7 @@
 -- Two outcomes of a call of the receiving session inside this repository are one: the promises tell its view and that it is within
 -- its ranges, and within them the view tells all that is lent. Assumes nothing.
+use Rattle.std.proofs.Common.{Result}
+use Rattle.length.specs.declared.Refusal.{Refusal}
 use Prim.Native.Nat.{ℕ}
 use mathlib.Core.Path.{◌≡◌, refl, sym, ap, ap₂, ◌∙◌}
 use mathlib.Core.Bool.{Bool}
@@ -9,7 +11,6 @@ use Rattle.datagram.specs.Read.{octets_of}
 use Rattle.datagram.specs.declared.reader.Part.{Part}
 use Rattle.session.specs.Cells.{Cell}
 use Rattle.session.specs.Held.{Held}
-use Rattle.session.specs.View.{numbers}
 use Rattle.session.specs.Offer as offers
 use Rattle.session_held.specs.Table.{Lent, lent, counts_of, state_numbered, cells_of, view_in}
 use Rattle.session_held.specs.Laid.{InRanges}
@@ -21,7 +22,6 @@ use Rattle.session_release.specs.Promise.{Leaves, Releases}
 use Rattle.session_release.specs.declared.Released.{Released}
 use Rattle.session_release.proofs.Laws.{released-told}
 use Rattle.session_offer.specs.Promise.{Offers}
-use Rattle.session_offer.specs.declared.Offered.{Offered}
 use Rattle.session_offer.proofs.Laws.{offered-told}
 use Rattle.demands.specs.OneOutcome.OneTold.{OneLent}
 use Rattle.demands.specs.OneOutcome.OneInside.{InHeld, InReceiving}
@@ -104,7 +104,7 @@ mend-one note base t o g may new_o other_o new_t other_t x y =
     let b = y.mends may.counts may.within in
     table-octets (lent_same a.within b.within (a.state ∙ sym b.state))
 
-leave-one : {leave : Bool} {room : ℕ} {before after other : Lent} {r q : Released} → Leaves leave room before after r
+leave-one : {leave : Bool} {room : ℕ} {before after other : Lent} {r q : Result Released Refusal} → Leaves leave room before after r
     → Leaves leave room before other q
     → (r ≡ q) × (after ≡ other)
 leave-one {r = r} {q} a b = (
@@ -112,7 +112,7 @@ leave-one {r = r} {q} a b = (
   lent_same a.within b.within (a.state ∙ sym b.state),
 )
 
-release-one : {leave : Bool} {before after other : Lent} {old new newer : List ℕ} {r q : Released}
+release-one : {leave : Bool} {before after other : Lent} {old new newer : List ℕ} {r q : Result Released Refusal}
     → Releases leave before after old new r → Releases leave before other old newer q
     → (r ≡ q) × (after ≡ other) × (new ≡ newer)
 release-one {r = r} {q} a b = (
@@ -121,7 +121,8 @@ release-one {r = r} {q} a b = (
   a.written ∙ sym b.written,
 )
 
-offer-one : {octets : List ℕ} {before after other : Lent} {r q : Offered} → Offers octets before after r → Offers octets before other q
+offer-one : {octets : List ℕ} {before after other : Lent} {r q : Result (Unit {0}) Refusal} → Offers octets before after r
+    → Offers octets before other q
     → (r ≡ q) × (after ≡ other)
 offer-one {r = r} {q} a b = (
   offered-told r q (a.told ∙ sym b.told),

@@ -1,4 +1,4 @@
--- What octets are that are refused with a number: each row of an item's table is one of the cases that `PacketRefusals` tells, where no
+-- What octets are that are refused for a reason: each row of an item's table is one of the cases that `PacketRefusals` tells, where no
 -- row before it is given. Assumes nothing.
 use Prim.Native.Nat.{ℕ, ◌+◌, ◌*◌}
 use mathlib.Core.Path.{◌≡◌, refl, sym, subst, ◌∙◌}
@@ -10,9 +10,10 @@ use lib.Dec.{leb, ltb, eqb}
 use native.Mathlib.Omega.{arith}
 use borrow.Author.Tests.{ltb-true, ltb-false, leb-true, leb-false, not-true}
 use Rattle.octets.proofs.Laws.{and_left, and_right}
-use Rattle.length.specs.Refusals.{ends_early, bad_form, outside_sizes, spare_bit, left_over, not_assigned, wrong_data}
+use Rattle.length.specs.Refusals.{ends_early, bad_form, outside_sizes, spare_bit, left_over, not_assigned, wrong_data, number_of}
 use Rattle.length.specs.Length.{of_two, within}
 use Rattle.length.specs.Tables.{first}
+use Rattle.length.specs.declared.Reason.{Reason}
 use Rattle.format.specs.Spelling.{gap}
 use Rattle.format.specs.Places.{Place, bits_at}
 use Rattle.datagram.specs.Sizes.{packet_limit}
@@ -26,7 +27,8 @@ use Rattle.packet.specs.declared.types.Ending.{Ending}
 use Rattle.demands.specs.Demand1.Refusals.{length_rows}
 use Rattle.demands.specs.Demand1.PacketItems.{Item, first_value, fields_allowed, count_of_fields, header, padding, data_length, field_data}
 use Rattle.demands.specs.Demand1.PacketItems.{end}
-use Rattle.demands.specs.Demand1.PacketItems.{rows, value_rows, octets_from, octet_here, has_fields, first_values, data_fits, data_size, Due}
+use Rattle.demands.specs.Demand1.PacketItems.{rows, value_rows, octets_from, octet_here, has_fields, first_values, data_fits, data_size}
+use Rattle.demands.specs.Demand1.PacketItems.{Due}
 use Rattle.demands.specs.Demand1.PacketRefusals.{FirstWrong, EndsEarly, NotAssigned, value, field_type, BadForm, OutsideSizes, count}
 use Rattle.demands.specs.Demand1.PacketRefusals.{long_data}
 use Rattle.demands.specs.Demand1.PacketRefusals.{SpareBit, WrongData, indicator, field}
@@ -47,21 +49,21 @@ never-fields Indicator false e = let z : ◌≡◌ {A = ℕ} 0 1 = cc in absurd 
 never-fields Data present e = let z : ◌≡◌ {A = ℕ} 0 1 = cc in absurd (omega arith)
 
 module _ (named : Named) (ending : Ending) (s : List ℕ) where
-  -- the case of each number
-  abbrev pub Case : ℕ → Type 0
+  -- the case of each reason
+  abbrev pub Case : Reason → Type 0
   Case n =
-      cond (eqb n ends_early) (EndsEarly (edition_of named) s)
-      (cond (eqb n bad_form) (BadForm (edition_of named) s)
-      (cond (eqb n outside_sizes) (OutsideSizes (edition_of named) s)
-      (cond (eqb n spare_bit) (SpareBit (edition_of named) s)
-      (cond (eqb n left_over) (LeftOver (edition_of named) ending s)
-      (cond (eqb n not_assigned) (NotAssigned (edition_of named) s) (WrongData (edition_of named) s))))))
+      cond (eqb (number_of n) (number_of ends_early)) (EndsEarly (edition_of named) s)
+      (cond (eqb (number_of n) (number_of bad_form)) (BadForm (edition_of named) s)
+      (cond (eqb (number_of n) (number_of outside_sizes)) (OutsideSizes (edition_of named) s)
+      (cond (eqb (number_of n) (number_of spare_bit)) (SpareBit (edition_of named) s)
+      (cond (eqb (number_of n) (number_of left_over)) (LeftOver (edition_of named) ending s)
+      (cond (eqb (number_of n) (number_of not_assigned)) (NotAssigned (edition_of named) s) (WrongData (edition_of named) s))))))
 
-  first-case : (n : ℕ) → first (rows (edition_of named) ending first_value s 0) ≡ some n → Case n
+  first-case : (n : Reason) → first (rows (edition_of named) ending first_value s 0) ≡ some n → Case n
   unfolding rows
   first-case n e = value-wrong (first_values (edition_of named) s) s 2 Case (early-first named s) value n e
 
-  allowed-case : (p : Place) → Due (edition_of named) s p fields_allowed → (n : ℕ)
+  allowed-case : (p : Place) → Due (edition_of named) s p fields_allowed → (n : Reason)
       → first (rows (edition_of named) ending fields_allowed s p) ≡ some n → Case n
   unfolding rows
   allowed-case p due n =
@@ -71,12 +73,12 @@ module _ (named : Named) (ending : Ending) (s : List ℕ) where
       indicator p due k.0 k.1)
 
   -- a field type, then whether it has data as it must
-  header-case : (left : ℕ) (p : Place) → Due (edition_of named) s p (header left) → (n : ℕ)
+  header-case : (left : ℕ) (p : Place) → Due (edition_of named) s p (header left) → (n : Reason)
       → first (rows (edition_of named) ending (header left) s p) ≡ some n
       → Case n
   unfolding rows
   header-case left p due n e = by (first (value_rows (edition_of named).types s (p + 1))) refl where
-    by : (o : Option ℕ) → first (value_rows (edition_of named).types s (p + 1)) ≡ o → Case n
+    by : (o : Option Reason) → first (value_rows (edition_of named).types s (p + 1)) ≡ o → Case n
     by (some m) given =
         value-wrong (edition_of named).types s (p + 1) Case (early-header named left s p due) (field_type p left due) n
         (given ∙ sym (first-front _ _ m given) ∙ e)
@@ -85,7 +87,7 @@ module _ (named : Named) (ending : Ending) (s : List ℕ) where
         (λ unfit. field p left due passed (not-true (data_fits (edition_of named) s p) unfit))
         (sym (first-later (value_rows (edition_of named).types s (p + 1)) _ passed) ∙ e)
 
-  size-case : (left : ℕ) (p : Place) → Due (edition_of named) s p (data_length left) → (n : ℕ)
+  size-case : (left : ℕ) (p : Place) → Due (edition_of named) s p (data_length left) → (n : Reason)
       → first (rows (edition_of named) ending (data_length left) s p) ≡ some n → Case n
   unfolding rows
   size-case left p due n =
@@ -99,7 +101,7 @@ module _ (named : Named) (ending : Ending) (s : List ℕ) where
       → BadForm (edition_of named) s
   bad-count p due form = record { place = p; due = due; form = form }
 
-  count-case : (p : Place) → Due (edition_of named) s p count_of_fields → (n : ℕ)
+  count-case : (p : Place) → Due (edition_of named) s p count_of_fields → (n : Reason)
       → first (rows (edition_of named) ending count_of_fields s p) ≡ some n → Case n
   unfolding rows length_rows
   count-case p due n =
@@ -130,7 +132,7 @@ module _ (named : Named) (ending : Ending) (s : List ℕ) where
       (not-given (leb 0xC0 o) bad_form _ low (not-given two ends_early _ both (not-given small bad_form _ large no_rows))))
       (not-true (within fields_least fields_limit o) outside))))))
 
-  item-case : (item : Item) (p : Place) → Due (edition_of named) s p item → (n : ℕ)
+  item-case : (item : Item) (p : Place) → Due (edition_of named) s p item → (n : Reason)
       → first (rows (edition_of named) ending item s p) ≡ some n → Case n
   unfolding rows
   item-case first_value p due n e =
@@ -149,5 +151,5 @@ module _ (named : Named) (ending : Ending) (s : List ℕ) where
       last Case (not (may_follow ending (octets_from s p))) left_over n
       (λ left. record { place = p; due = due; left = not-true (may_follow ending (octets_from s p)) left }) e
 
-  pub case-of : (n : ℕ) → FirstWrong (edition_of named) ending s n → Case n
+  pub case-of : (n : Reason) → FirstWrong (edition_of named) ending s n → Case n
   case-of n w = item-case w.item w.place w.due n w.wrong

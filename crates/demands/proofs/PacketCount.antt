@@ -12,6 +12,7 @@ use Rattle.length.specs.Refusals.{ends_early, bad_form, outside_sizes}
 use Rattle.length.specs.Answers.{Answer, done, refused, refuse, refuse_at, read_from, ◌>>=◌, LengthAnswer}
 use Rattle.length.specs.Length.{length_at, length_within, allowed, within, of_two}
 use Rattle.length.specs.Tables.{when, first}
+use Rattle.length.specs.declared.Reason.{Reason}
 use Rattle.packet.specs.Edition.{Edition}
 use Rattle.packet.specs.Packet.{fields_least, fields_limit}
 use Rattle.packet_laws.specs.Octets.{Count, count_at}
@@ -20,7 +21,7 @@ use Rattle.demands.specs.Demand1.Refusals.{length_rows}
 use Rattle.demands.specs.Demand1.PacketItems.{count_of_fields, rows, octet_here}
 use Rattle.demands.proofs.PacketTables.{answered, bind_assoc}
 
-then_if : {A B : Type 0} (b : Bool) (n : ℕ) (x : A) (next : A → Answer B)
+then_if : {A B : Type 0} (b : Bool) (n : Reason) (x : A) (next : A → Answer B)
     → ◌>>=◌ (cond b (done x) (refuse n)) next ≡ cond b (next x) (refuse n)
 then_if true n x next = refl
 then_if false n x next = refl
@@ -69,7 +70,7 @@ from_then : {A B : Type 0} (start : ℕ) (m : Answer A) (made : A → B)
 from_then start (done a) made = refl
 from_then start (refused r) made = refl
 
-from-table : {A : Type 0} (start : ℕ) (o : Option ℕ) (x : A) → read_from start (answered 0 o x) ≡ answered start o x
+from-table : {A : Type 0} (start : ℕ) (o : Option Reason) (x : A) → read_from start (answered 0 o x) ≡ answered start o x
 from-table start (some n) x = ap (λ (place : ℕ). refuse_at place n) (omega arith)
 from-table start none x = refl
 

@@ -1,4 +1,4 @@
--- A value that does not lie in a front of a packet: cut short there, it is refused with 1, and refused with another number it stays so
+-- A value that does not lie in a front of a packet: cut short there, it is refused with 1, and refused for another reason it stays so
 -- whatever follows. Assumes nothing.
 use Prim.Native.Nat.{ℕ, ◌+◌, ◌*◌, ◌≤◌, ◌<◌}
 use mathlib.Core.Path.{◌≡◌, refl, sym, ap, subst, ◌∙◌}

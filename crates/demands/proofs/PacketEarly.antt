@@ -27,7 +27,8 @@ use Rattle.demands.proofs.PacketPlaces.{due-count, due-length, due-data, due-ins
 use Rattle.demands.proofs.PacketValues.{cut-rows}
 use Rattle.demands.proofs.PacketInFront.{from_front}
 use Rattle.demands.proofs.PacketFronts.{due-more, in-front}
-use Rattle.demands.proofs.PacketFinish.{one-octet, zeros-octets, two-zeros, lacking, finish-data, finish-sized, finish-length, finish-header, finish-fields}
+use Rattle.demands.proofs.PacketFinish.{one-octet, zeros-octets, two-zeros, lacking, finish-data, finish-sized, finish-length}
+use Rattle.demands.proofs.PacketFinish.{finish-header, finish-fields}
 use Rattle.demands.proofs.PacketFinish.{finish-count, finish-first}
 
 -- ---- the item that is missing or cut

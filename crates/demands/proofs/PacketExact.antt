@@ -1,4 +1,4 @@
--- Each case is refused with its number, 3, 4, 5, 12 and 14: its row is the first that is given. Assumes nothing.
+-- Each case is refused for its reason, 3, 4, 5, 12 and 14: its row is the first that is given. Assumes nothing.
 use Prim.Native.Nat.{ℕ, ◌+◌, ◌*◌}
 use mathlib.Core.Path.{ap, ◌∙◌}
 use mathlib.Core.Bool.{not}
@@ -10,6 +10,7 @@ use borrow.Author.Tests.{lt-ltb, le-ltb}
 use Rattle.length.specs.Refusals.{ends_early, bad_form, outside_sizes, spare_bit, not_assigned, wrong_data}
 use Rattle.length.specs.Length.{within}
 use Rattle.length.specs.Tables.{when}
+use Rattle.length.specs.declared.Reason.{Reason}
 use Rattle.format.specs.Spelling.{gap}
 use Rattle.format.specs.Places.{bits_at}
 use Rattle.datagram.specs.Sizes.{packet_limit}
@@ -73,7 +74,7 @@ of-unassigned {edition} ending s (field_type p left due u) =
 
 -- ---- 3 and 4
 -- the count's rows behind those of its form
-abbrev size_row : List ℕ → List (Option ℕ)
+abbrev size_row : List ℕ → List (Option Reason)
 size_row rest = when (not (within fields_least fields_limit (get_or rest 0 0))) outside_sizes ∷ []
 
 pub of-bad-count : {edition : Edition} (ending : Ending) (s : List ℕ) → BadForm edition s → FirstWrong edition ending s bad_form

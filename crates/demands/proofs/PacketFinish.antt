@@ -4,7 +4,7 @@ use Prim.Native.Nat.{ℕ, zero, suc, ◌+◌, ◌-◌, ◌*◌, ◌/◌, ◌%◌
 use mathlib.Core.Path.{◌≡◌, refl, sym, ap, subst, ◌∙◌}
 use mathlib.Core.Bool.{Bool, true, false, not, cond}
 use mathlib.Core.List.{List, [], ◌∷◌, ◌++◌, append_assoc, append-nil}
-use mathlib.Core.Option.{none, some}
+use mathlib.Core.Option.{none}
 use lib.ListN.{length, get_or, drop, replicate, length-append, length-replicate}
 use lib.Seq.{drop-append_seam}
 use lib.Dec.{ltb}
@@ -24,7 +24,8 @@ use Rattle.packet.specs.declared.types.Named.{Named}
 use Rattle.packet.specs.declared.types.Named.TheVariants.{Old, New}
 use Rattle.packet_laws.proofs.Laws.{narrow}
 use Rattle.demands.specs.Demand1.PacketItems.{Item, count_of_fields, header, padding, data_length, field_data, end, fields, rows}
-use Rattle.demands.specs.Demand1.PacketItems.{is_added, behind_mark, value_ends, value_rows, type_in, octets_from, data_fits, data_size, Due}
+use Rattle.demands.specs.Demand1.PacketItems.{is_added, behind_mark, value_ends, value_rows, type_in, octets_from, data_fits, data_size}
+use Rattle.demands.specs.Demand1.PacketItems.{Due}
 use Rattle.demands.specs.Demand1.PacketItems.{begins}
 use Rattle.demands.specs.Demand1.PacketItems.{goes_on, Packet}
 use Rattle.demands.specs.Demand1.PacketRefusals.{EndsEarly, front}
@@ -219,7 +220,8 @@ finish-header named left s on due =
     let t : List ℕ = s ++ 0x80 ∷ [] in
     and_then t (0 ∷ 0 ∷ []) two-zeros (finish-length named left t on (header-then named left s due))
 
-pub finish-fields : (named : Named) (n : ℕ) (s : List ℕ) → Due (edition_of named) s (8 * length s) (fields n) → Finished (edition_of named) s
+pub finish-fields : (named : Named) (n : ℕ) (s : List ℕ) → Due (edition_of named) s (8 * length s) (fields n)
+    → Finished (edition_of named) s
 finish-fields named zero s due =
     record { more = []; octets = octets-none; whole = subst (Packet (edition_of named)) (sym (append-nil s)) (edge-passes s end due) }
 finish-fields named (suc n) s due =

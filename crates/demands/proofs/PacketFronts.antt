@@ -1,5 +1,5 @@
 -- Fronts of packets, and what more octets change: an item that lies in a front is there as in the whole, and one that does not is cut
--- short there and refused with 1, so every proper front of a packet is. An item refused with another number stays so whatever
+-- short there and refused with 1, so every proper front of a packet is. An item refused for another reason stays so whatever
 -- follows. Assumes nothing.
 use Prim.Native.Nat.{ℕ, ◌+◌, ◌*◌, ◌/◌, ◌≤◌, ◌<◌}
 use mathlib.Core.Path.{◌≡◌, refl, sym, ap, subst, ◌∙◌}
@@ -15,6 +15,7 @@ use Rattle.octets.proofs.Laws.{below_or_not}
 use Rattle.length.specs.Refusals.{ends_early, bad_form, outside_sizes, wrong_data}
 use Rattle.length.specs.Length.{of_two, within}
 use Rattle.length.specs.Tables.{when, first}
+use Rattle.length.specs.declared.Reason.{Reason}
 use Rattle.format.specs.Places.{Place}
 use Rattle.packet.specs.Edition.{Edition, values}
 use Rattle.packet.specs.Packet.{fields_least, fields_limit}
@@ -39,7 +40,7 @@ use Rattle.demands.proofs.PacketInFront.{item-rows}
 
 -- ---- more octets after an item that is not cut short
 -- a count cut after its first octet: if that is not refused with 1, the second octet does not matter
-one-octet : (b d x y z : Bool) (table : List (Option ℕ))
+one-octet : (b d x y z : Bool) (table : List (Option Reason))
     → first (when b bad_form ∷ when (d && true) ends_early ∷ when (d && y) bad_form ∷ table) ≢ some ends_early
     → first (when b bad_form ∷ when (d && x) ends_early ∷ when (d && z) bad_form ∷ table)
     ≡ first (when b bad_form ∷ when (d && true) ends_early ∷ when (d && y) bad_form ∷ table)
@@ -87,7 +88,7 @@ header-stays {edition} narrow ending left w more p apart = by (first (value_rows
   same : first (value_rows edition.types (w ++ more) (p + 1)) ≡ first (value_rows edition.types w (p + 1))
   same = value_stays edition.types narrow.of_types w more (p + 1) (λ cut. apart (first-front _ _ ends_early cut))
 
-  by : (o : Option ℕ) → first (value_rows edition.types w (p + 1)) ≡ o
+  by : (o : Option Reason) → first (value_rows edition.types w (p + 1)) ≡ o
       → first (value_rows edition.types (w ++ more) (p + 1) ++ (when (not (data_fits edition (w ++ more) p)) wrong_data ∷ []))
       ≡ first (value_rows edition.types w (p + 1) ++ (when (not (data_fits edition w p)) wrong_data ∷ []))
   by (some n) given = first-front _ _ n (same ∙ given) ∙ sym (first-front _ _ n given)

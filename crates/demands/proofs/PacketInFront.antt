@@ -10,6 +10,7 @@ use lib.Seq.{drop-append-le}
 use native.Mathlib.Omega.{arith}
 use Rattle.length.specs.Refusals.{wrong_data}
 use Rattle.length.specs.Tables.{when}
+use Rattle.length.specs.declared.Reason.{Reason}
 use Rattle.format.specs.Spelling.{gap}
 use Rattle.format.specs.Places.{Place}
 use Rattle.format.proofs.Laws.{bits-more, gap-past}
@@ -107,7 +108,7 @@ module _ {edition : Edition} (narrow : NarrowEdition edition) (w more : List ℕ
   item-rows ending count_of_fields at begun inside = inr (inl refl)
   item-rows ending (header left) at begun inside =
       inr (inr
-      (ap (λ (table : List (Option ℕ)). table ++ (when (not (data_fits edition (w ++ more) p)) wrong_data ∷ []))
+      (ap (λ (table : List (Option Reason)). table ++ (when (not (data_fits edition (w ++ more) p)) wrong_data ∷ []))
       (rows-front edition.types narrow.of_types w more (p + 1) inside)
       ∙ ap (λ (b : Bool). value_rows edition.types w (p + 1) ++ (when (not b) wrong_data ∷ [])) (fits-front inside)))
   item-rows ending (padding next) at begun inside =

@@ -4,7 +4,7 @@ use Prim.Native.Nat.{ℕ, zero, suc, ◌+◌, ◌*◌, ◌/◌, ◌%◌, ◌≤�
 use mathlib.Core.Path.{◌≡◌, refl, ap}
 use mathlib.Core.Bool.{Bool, true, false, not, cond, ◌&&◌}
 use mathlib.Core.List.{List, [], ◌∷◌, ◌++◌}
-use mathlib.Core.Option.{Option, none, some}
+use mathlib.Core.Option.{Option, none}
 use lib.ListN.{length, get_or, length-drop}
 use lib.Dec.{leb, ltb}
 use native.Mathlib.Omega.{arith}
@@ -13,6 +13,7 @@ use Rattle.length.specs.Refusals.{ends_early, bad_form, outside_sizes, not_assig
 use Rattle.length.specs.Length.{of_two, within}
 use Rattle.length.specs.Tables.{when, first}
 use Rattle.length.proofs.Laws.{within-true}
+use Rattle.length.specs.declared.Reason.{Reason}
 use Rattle.format.specs.Places.{Place, edge}
 use Rattle.packet.specs.Edition.{added_width, Edition}
 use Rattle.packet.specs.Packet.{fields_least, fields_limit}
@@ -118,7 +119,7 @@ pub record CountPassed (rest : List ℕ) : Type 0 where
   pub some : 1 ≤ length rest
   pub sizes : within fields_least fields_limit (get_or rest 0 0) ≡ true
 
-unfoldable pub count_rows : List ℕ → List (Option ℕ)
+unfoldable pub count_rows : List ℕ → List (Option Reason)
 count_rows rest = length_rows rest ++ (when (not (within fields_least fields_limit (get_or rest 0 0))) outside_sizes ∷ [])
 
 pub count-rows : (edition : Edition) (ending : Ending) (s : List ℕ) (p : Place)

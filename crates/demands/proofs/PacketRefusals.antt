@@ -1,5 +1,6 @@
 -- What the packet reader refuses, of the public call's answer: reading stops at the first wrong item, and each sentence is what that
 -- item's table says. Assumes nothing.
+use Rattle.std.proofs.Common.{Result}
 use Prim.Native.Nat.{ℕ, zero, suc, ◌*◌, ◌/◌, ◌≤◌, ◌<◌}
 use mathlib.Core.Path.{◌≡◌, refl, sym, ap, subst, ◌∙◌}
 use mathlib.Core.Logic.{◌↔◌, ◌⊎◌, inl, inr, ⊎_elim, ◌≢◌}
@@ -11,8 +12,9 @@ use native.Mathlib.Omega.{arith}
 use borrow.Author.Tests.{eq-eqb, ne_eqb, eqb-true, eqb-false}
 use Rattle.octets.proofs.Laws.{below_or_not}
 use Rattle.length.specs.Refusals.{refusal_at, ends_early, bad_form, outside_sizes, spare_bit, not_assigned, wrong_data}
-use Rattle.length.specs.Refusals as number
+use Rattle.length.specs.Refusals as reason
 use Rattle.length.specs.Answers.{refused, refuse}
+use Rattle.length.specs.declared.Reason.{Reason}
 use Rattle.length.specs.declared.Refusal.{Refusal}
 use Rattle.length.proofs.Laws.{refused-same}
 use Rattle.format.specs.Places.{Place}
@@ -42,18 +44,20 @@ use Rattle.demands.proofs.PacketCases.{Case, case-of}
 use Rattle.demands.proofs.PacketExact.{of-spare, of-data, of-unassigned, of-bad-count, of-sizes}
 
 -- ---- the call's answer
-module _ (named : Named) (ending : Ending) (s : List ℕ) {r : PacketRead} (told : PacketTold (read_packet (edition_of named) ending s) r) where
+module _ (named : Named) (ending : Ending) (s : List ℕ) {r : Result PacketRead Refusal}
+    (told : PacketTold (read_packet (edition_of named) ending s) r) where
   over-limit : packet_limit < length s → refusal_in (packet_outcome r) ≡ some outside_sizes
   over-limit over = ap refusal_in told.answer ∙ stops.over-limit (edition_of named) ending s over
 
-  wrong-item : (n : ℕ) → length s ≤ packet_limit → (refusal_in (packet_outcome r) ≡ some n) ↔ FirstWrong (edition_of named) ending s n
+  wrong-item : (n : Reason) → length s ≤ packet_limit → (refusal_in (packet_outcome r) ≡ some n) ↔ FirstWrong (edition_of named) ending s n
   wrong-item n fits =
       let same = ap refusal_in told.answer in
       let t = refused-wrong named ending s fits n in
       (λ e. t.0 (sym same ∙ e), λ w. same ∙ t.1 w)
 
   -- at the octet of the first wrong item, or at 0
-  placed : (n : ℕ) (why : Refusal) → length s ≤ packet_limit → packet_outcome r ≡ refused why → (w : FirstWrong (edition_of named) ending s n)
+  placed : (n : Reason) (why : Refusal) → length s ≤ packet_limit → packet_outcome r ≡ refused why
+      → (w : FirstWrong (edition_of named) ending s n)
       → why ≡ refusal_at (octet_of w.item w.place) n
   placed n why fits is w =
       let same : some why ≡ some (refusal_at (octet_of w.item w.place) n) =
@@ -65,8 +69,8 @@ module _ (named : Named) (ending : Ending) (s : List ℕ) {r : PacketRead} (told
       let same : refuse outside_sizes ≡ refused why = sym (stops.over-refused (edition_of named) ending s over) ∙ sym told.answer ∙ is in
       ap (λ (x : Refusal). x.place) (sym (refused-same same))
 
-  -- refused with a number exactly in its case, where the case is refused with it
-  exactly : (n : ℕ) → (Case named ending s n → FirstWrong (edition_of named) ending s n) → length s ≤ packet_limit
+  -- refused for a reason exactly in its case, where the case is refused with it
+  exactly : (n : Reason) → (Case named ending s n → FirstWrong (edition_of named) ending s n) → length s ≤ packet_limit
       → (refusal_in (packet_outcome r) ≡ some n) ↔ Case named ending s n
   exactly n back fits = (λ e. case-of named ending s n ((wrong-item n fits).0 e), λ c. (wrong-item n fits).1 (back c))
 
@@ -89,15 +93,15 @@ module _ (named : Named) (ending : Ending) (s : List ℕ) {r : PacketRead} (told
         λ w. same ∙ t.1 (record { place = w.1.place; due = w.1.due; follows = there w.0 w.1 true w.2 }),
       )
 
-  left_over_lem : length s ≤ packet_limit → (refusal_in (packet_outcome r) ≡ some number.left_over) ↔ followed false
+  left_over_lem : length s ≤ packet_limit → (refusal_in (packet_outcome r) ≡ some reason.left_over) ↔ followed false
   unfolding followed
   left_over_lem fits = (
     λ e.
-        let l = case-of named ending s number.left_over ((wrong-item number.left_over fits).0 e) in
+        let l = case-of named ending s reason.left_over ((wrong-item reason.left_over fits).0 e) in
         (octets_from s l.place, record { place = l.place; due = l.due; is = refl }, l.left),
     λ w.
         let p = w.1.place in
-        (wrong-item number.left_over fits).1
+        (wrong-item reason.left_over fits).1
         (record {
           item = end;
           place = p;
@@ -107,7 +111,7 @@ module _ (named : Named) (ending : Ending) (s : List ℕ) {r : PacketRead} (told
   )
 
 -- ---- two calls
-stays : (named : Named) (ending : Ending) (s more : List ℕ) {r t : PacketRead} {n : ℕ}
+stays : (named : Named) (ending : Ending) (s more : List ℕ) {r t : Result PacketRead Refusal} {n : Reason}
     → PacketTold (read_packet (edition_of named) ending s) r → PacketTold (read_packet (edition_of named) ending (s ++ more)) t
     → length (s ++ more) ≤ packet_limit → refusal_in (packet_outcome r) ≡ some n → n ≢ ends_early → refusal_in (packet_outcome t) ≡ some n
 stays named ending s more {r} {t} {n} told longer fits e apart =
@@ -115,7 +119,7 @@ stays named ending s more {r} {t} {n} told longer fits e apart =
     (wrong-item named ending (s ++ more) longer n fits).1
     (wrong-more (narrow named) ending s more n apart ((wrong-item named ending s told n (omega arith)).0 e))
 
-never : (named : Named) (ending : Ending) (s more : List ℕ) {r t : PacketRead} {n : ℕ}
+never : (named : Named) (ending : Ending) (s more : List ℕ) {r t : Result PacketRead Refusal} {n : Reason}
     → PacketTold (read_packet (edition_of named) ending s) r → PacketTold (read_packet (edition_of named) ending (s ++ more)) t
     → refusal_in (packet_outcome r) ≡ some n → n ≢ ends_early → refusal_in (packet_outcome t) ≡ none → ⊥
 never named ending s more told longer e apart reads =
@@ -124,8 +128,8 @@ never named ending s more told longer e apart reads =
     (below_or_not packet_limit (length (s ++ more)))
 
 -- from one ending to the other
-other_way : (named : Named) (one other : Ending) (s : List ℕ) {r t : PacketRead} {n : ℕ}
-    → PacketTold (read_packet (edition_of named) one s) r → PacketTold (read_packet (edition_of named) other s) t → n ≢ number.left_over
+other_way : (named : Named) (one other : Ending) (s : List ℕ) {r t : Result PacketRead Refusal} {n : Reason}
+    → PacketTold (read_packet (edition_of named) one s) r → PacketTold (read_packet (edition_of named) other s) t → n ≢ reason.left_over
     → refusal_in (packet_outcome r) ≡ some n → refusal_in (packet_outcome t) ≡ some n
 other_way named one other s {r} {t} {n} told again apart e = by (below_or_not packet_limit (length s)) where
   same : (w : FirstWrong (edition_of named) one s n)
@@ -155,7 +159,8 @@ nothing_left {edition} s p due none-there =
     let edge = due-end due in
     subst (λ (q : Place). Due edition s q end) (omega (arith, length-drop (p / 8) s)) due
 
-received : (named : Named) (s : List ℕ) {r : PacketRead} → PacketTold (read_packet (edition_of named) Whole s) r → length s ≤ packet_limit
+received : (named : Named) (s : List ℕ) {r : Result PacketRead Refusal} → PacketTold (read_packet (edition_of named) Whole s) r
+    → length s ≤ packet_limit
     → (refusal_in (packet_outcome r) ≡ none) ↔ Packet (edition_of named) s
 unfolding followed
 received named s told fits = (
@@ -174,11 +179,12 @@ positive zero apart = absurd (apart refl)
 positive (suc n) apart = omega arith
 
 module _ (octet : ℕ) (named : Named) (names : Names octet named) where
-  read : (ending : Ending) (s : List ℕ) {r : PacketRead} → ReadBy octet ending s r → PacketTold (read_packet (edition_of named) ending s) r
+  read : (ending : Ending) (s : List ℕ) {r : Result PacketRead Refusal} → ReadBy octet ending s r
+      → PacketTold (read_packet (edition_of named) ending s) r
   read ending s told = read_as octet named ending s names told
 
-  in-case : (n : ℕ) → ((ending : Ending) (s : List ℕ) → Case named ending s n → FirstWrong (edition_of named) ending s n)
-      → (ending : Ending) (s : List ℕ) (r : PacketRead) → ReadBy octet ending s r → length s ≤ packet_limit
+  in-case : (n : Reason) → ((ending : Ending) (s : List ℕ) → Case named ending s n → FirstWrong (edition_of named) ending s n)
+      → (ending : Ending) (s : List ℕ) (r : Result PacketRead Refusal) → ReadBy octet ending s r → length s ≤ packet_limit
       → (refusal_in (packet_outcome r) ≡ some n) ↔ Case named ending s n
   in-case n back ending s r told = exactly named ending s (read ending s told) n (back ending s)
 

@@ -9,6 +9,7 @@ use native.Mathlib.Omega.{arith}
 use borrow.Author.Tests.{not-true, not-false}
 use Rattle.length.specs.Refusals.{left_over}
 use Rattle.length.specs.Tables.{when, first}
+use Rattle.length.specs.declared.Reason.{Reason}
 use Rattle.format.specs.Places.{Place}
 use Rattle.packet.specs.Edition.{Edition}
 use Rattle.packet.specs.Packet.{may_follow}
@@ -20,12 +21,13 @@ use Rattle.demands.specs.Demand1.PacketItems.{octets_from}
 
 -- ---- which row refuses
 -- a row that is not given, and what it says that a row is not
-pub not-given : (b : Bool) (n : ℕ) (table : List (Option ℕ)) → b ≡ false → first table ≡ none → first (when b n ∷ table) ≡ none
+pub not-given : (b : Bool) (n : Reason) (table : List (Option Reason)) → b ≡ false → first table ≡ none → first (when b n ∷ table) ≡ none
 unfolding first
 not-given true n table e rest = let z : ◌≡◌ {A = ℕ} 0 1 = cc in absurd (omega arith)
 not-given false n table e rest = rest
 
-pub none-given : (b : Bool) (n : ℕ) (table : List (Option ℕ)) → first (when b n ∷ table) ≡ none → (b ≡ false) × (first table ≡ none)
+pub none-given : (b : Bool) (n : Reason) (table : List (Option Reason)) → first (when b n ∷ table) ≡ none
+    → (b ≡ false) × (first table ≡ none)
 unfolding first
 none-given true n table e = let z : ◌≡◌ {A = ℕ} 0 1 = cc in absurd (omega arith)
 none-given false n table e = (refl, e)
@@ -35,66 +37,67 @@ unfolding first
 no_rows = refl
 
 -- past a row that is not given
-pub past_row : (b : Bool) (m n : ℕ) (table : List (Option ℕ)) → b ≡ false → first table ≡ some n → first (when b m ∷ table) ≡ some n
+pub past_row : (b : Bool) (m n : Reason) (table : List (Option Reason)) → b ≡ false → first table ≡ some n
+    → first (when b m ∷ table) ≡ some n
 unfolding first
 past_row true m n table off e = let z : ◌≡◌ {A = ℕ} 0 1 = cc in absurd (omega arith)
 past_row false m n table off e = e
 
 -- a first row that is not the one given
-pub not-cut : (b : Bool) {n : ℕ} (table : List (Option ℕ)) → first (when b n ∷ table) ≢ some n → b ≡ false
+pub not-cut : (b : Bool) {n : Reason} (table : List (Option Reason)) → first (when b n ∷ table) ≢ some n → b ≡ false
 unfolding first
 not-cut true table apart = absurd (apart refl)
 not-cut false table apart = refl
 
-pub no-row-given : (n : ℕ) → first [] ≡ some n → ⊥
+pub no-row-given : (n : Reason) → first [] ≡ some n → ⊥
 unfolding first
 no-row-given n e = let z : ◌≡◌ {A = ℕ} 0 1 = cc in omega arith
 
-pub same_number : {m n : ℕ} → some m ≡ some n → m ≡ n
-same_number e = cc
+pub same_reason : {m n : Reason} → some m ≡ some n → m ≡ n
+same_reason e = cc
 
-pub not-both : {n : ℕ} {o : Option ℕ} → o ≡ none → o ≡ some n → ⊥
+pub not-both : {n : Reason} {o : Option Reason} → o ≡ none → o ≡ some n → ⊥
 not-both p q = let z : ◌≡◌ {A = ℕ} 0 1 = cc in omega arith
 
 -- a row that is given
-pub given-row : (b : Bool) (n : ℕ) (table : List (Option ℕ)) → b ≡ true → first (when b n ∷ table) ≡ some n
+pub given-row : (b : Bool) (n : Reason) (table : List (Option Reason)) → b ≡ true → first (when b n ∷ table) ≡ some n
 unfolding first
 given-row true n table e = refl
 given-row false n table e = let z : ◌≡◌ {A = ℕ} 0 1 = cc in absurd (omega arith)
 
-pub last_row : (b : Bool) (m n : ℕ) → first (when b m ∷ []) ≡ some n → (b ≡ true) × (m ≡ n)
+pub last_row : (b : Bool) (m n : Reason) → first (when b m ∷ []) ≡ some n → (b ≡ true) × (m ≡ n)
 unfolding first
-last_row true m n e = (refl, same_number e)
+last_row true m n e = (refl, same_reason e)
 last_row false m n e = absurd (no-row-given n e)
 
 -- of two tables one after the other: the first decides, and where it is passed the second
-pub first-front : (table more : List (Option ℕ)) (n : ℕ) → first table ≡ some n → first (table ++ more) ≡ some n
+pub first-front : (table more : List (Option Reason)) (n : Reason) → first table ≡ some n → first (table ++ more) ≡ some n
 unfolding first
 first-front [] more n e = absurd (no-row-given n e)
 first-front (some k ∷ table) more n e = e
 first-front (none ∷ table) more n e = first-front table more n e
 
-pub first-later : (table more : List (Option ℕ)) → first table ≡ none → first (table ++ more) ≡ first more
+pub first-later : (table more : List (Option Reason)) → first table ≡ none → first (table ++ more) ≡ first more
 unfolding first
 first-later [] more e = refl
 first-later (some k ∷ table) more e = let z : ◌≡◌ {A = ℕ} 0 1 = cc in absurd (omega arith)
 first-later (none ∷ table) more e = first-later table more e
 
-pub both-none : (table more : List (Option ℕ)) → first (table ++ more) ≡ none → (first table ≡ none) × (first more ≡ none)
+pub both-none : (table more : List (Option Reason)) → first (table ++ more) ≡ none → (first table ≡ none) × (first more ≡ none)
 unfolding first
 both-none [] more e = (refl, e)
 both-none (some k ∷ table) more e = let z : ◌≡◌ {A = ℕ} 0 1 = cc in absurd (omega arith)
 both-none (none ∷ table) more e = both-none table more e
 
 -- a row that is given tells its case, and one that is not leaves it to the rows after it
-module _ (Case : ℕ → Type 0) where
-  pub row : (b : Bool) (m n : ℕ) (table : List (Option ℕ)) → (b ≡ true → Case m) → (b ≡ false → first table ≡ some n → Case n)
+module _ (Case : Reason → Type 0) where
+  pub row : (b : Bool) (m n : Reason) (table : List (Option Reason)) → (b ≡ true → Case m) → (b ≡ false → first table ≡ some n → Case n)
       → first (when b m ∷ table) ≡ some n → Case n
   unfolding first
-  row true m n table here later e = subst Case (same_number e) (here refl)
+  row true m n table here later e = subst Case (same_reason e) (here refl)
   row false m n table here later e = later refl e
 
-  pub last : (b : Bool) (m n : ℕ) → (b ≡ true → Case m) → first (when b m ∷ []) ≡ some n → Case n
+  pub last : (b : Bool) (m n : Reason) → (b ≡ true → Case m) → first (when b m ∷ []) ≡ some n → Case n
   last b m n here e = row b m n [] here (λ off none. absurd (no-row-given n none)) e
 
 -- ---- the end
@@ -110,7 +113,7 @@ pub end-passes : (edition : Edition) (ending : Ending) (s : List ℕ) (p : Place
 unfolding rows
 end-passes edition ending s p e = not-given (not (may_follow ending (octets_from s p))) left_over [] (ap not e) no_rows
 
-pub end-wrong : (edition : Edition) (ending : Ending) (s : List ℕ) (p : Place) (n : ℕ) → first (rows edition ending end s p) ≡ some n
+pub end-wrong : (edition : Edition) (ending : Ending) (s : List ℕ) (p : Place) (n : Reason) → first (rows edition ending end s p) ≡ some n
     → (may_follow ending (octets_from s p) ≡ false) × (left_over ≡ n)
 unfolding rows
 end-wrong edition ending s p n e =

@@ -1,5 +1,5 @@
 -- Reading a packet stops at its first wrong item, or at its end: every item that is due is reached, and what is met from the first
--- value on is met from there on. So the reader refuses with a number exactly if there is a first wrong item with it, at the octet at
+-- value on is met from there on. So the reader refuses for a reason exactly if there is a first wrong item of it, at the octet at
 -- which that begins, and does not refuse exactly if there is a packet after which nothing is left over. Assumes nothing.
 use Prim.Native.Nat.{ℕ, ◌≤◌, ◌<◌}
 use mathlib.Core.Path.{◌≡◌, refl, sym, ap, subst, ◌∙◌}
@@ -14,6 +14,7 @@ use Rattle.length.specs.Refusals.{refusal_at, outside_sizes}
 use Rattle.length.specs.Answers.{Answer, done, refused, refuse}
 use Rattle.length.specs.declared.Refusal.{Refusal}
 use Rattle.length.specs.Tables.{first, refusal_in}
+use Rattle.length.specs.declared.Reason.{Reason}
 use Rattle.format.specs.Places.{Place}
 use Rattle.datagram.specs.Sizes.{packet_limit}
 use Rattle.packet.specs.Edition.{Edition, edition_of}
@@ -23,7 +24,7 @@ use Rattle.packet.specs.declared.types.Ending.{Ending}
 use Rattle.packet.specs.declared.types.Ending.TheVariants.{Whole}
 use Rattle.demands.specs.Demand1.PacketItems.{Item, first_value, end, octet_of, octets_from, rows, ends, due_after, Due, begins, goes_on}
 use Rattle.demands.specs.Demand1.PacketRefusals.{FirstWrong}
-use Rattle.demands.proofs.PacketRows.{same_number, not-both, end-passed, end-passes, rows_alike}
+use Rattle.demands.proofs.PacketRows.{same_reason, not-both, end-passed, end-passes, rows_alike}
 use Rattle.demands.proofs.PacketWalk.{why_in, Met, wrong, right, whole, packet-walk}
 
 module _ {edition : Edition} {ending : Ending} {s : List ℕ} where
@@ -50,10 +51,10 @@ module _ {edition : Edition} {ending : Ending} {s : List ℕ} where
   reaches begins met = met
   reaches (goes_on due passed) met = past passed (reaches due met)
 
-  wrong-here : {p : Place} {item : Item} {n : ℕ} {o : Option Refusal} → first (rows edition ending item s p) ≡ some n
+  wrong-here : {p : Place} {item : Item} {n : Reason} {o : Option Refusal} → first (rows edition ending item s p) ≡ some n
       → Met edition ending s p item o
       → o ≡ some (refusal_at (octet_of item p) n)
-  wrong-here {p} {item} given (wrong e) = ap (λ (n : ℕ). some (refusal_at (octet_of item p) n)) (same_number (sym e ∙ given))
+  wrong-here {p} {item} given (wrong e) = ap (λ (n : Reason). some (refusal_at (octet_of item p) n)) (same_reason (sym e ∙ given))
   wrong-here given (right e on) = absurd (not-both e given)
   wrong-here given (whole e) = absurd (not-both e given)
 
@@ -86,7 +87,7 @@ pub record Ended (edition : Edition) (ending : Ending) (s : List ℕ) : Type 0 w
   pub follows : may_follow ending (octets_from s place) ≡ true
 
 Outcome : Edition → Ending → List ℕ → Option Refusal → Type 0
-Outcome edition ending s (some why) = FirstWrong edition ending s why.number
+Outcome edition ending s (some why) = FirstWrong edition ending s why.reason
 Outcome edition ending s none = Ended edition ending s
 
 stops : {edition : Edition} {ending : Ending} {s : List ℕ} {p : Place} {item : Item} {o : Option Refusal} → Due edition s p item
@@ -112,11 +113,12 @@ module _ (named : Named) (ending : Ending) (s : List ℕ) (fits : length s ≤ p
   met = packet-walk named ending s fits
 
   -- where the first wrong item is, it is refused
-  pub wrong-refused : (n : ℕ) (w : FirstWrong (edition_of named) ending s n)
+  pub wrong-refused : (n : Reason) (w : FirstWrong (edition_of named) ending s n)
       → why_in (read_packet (edition_of named) ending s) ≡ some (refusal_at (octet_of w.item w.place) n)
   wrong-refused n w = wrong-here w.wrong (reaches w.due met)
 
-  pub refused-wrong : (n : ℕ) → (refusal_in (read_packet (edition_of named) ending s) ≡ some n) ↔ FirstWrong (edition_of named) ending s n
+  pub refused-wrong : (n : Reason) → (refusal_in (read_packet (edition_of named) ending s) ≡ some n)
+      ↔ FirstWrong (edition_of named) ending s n
   unfolding Outcome
   refused-wrong n = (
     λ e. by (read_packet (edition_of named) ending s) e (stops begins met),
@@ -125,11 +127,11 @@ module _ (named : Named) (ending : Ending) (s : List ℕ) (fits : length s ≤ p
     by : (m : Answer PacketAnswer) → refusal_in m ≡ some n → Outcome (edition_of named) ending s (why_in m)
         → FirstWrong (edition_of named) ending s n
     by (done a) e t = absurd (not-both refl e)
-    by (refused why) e t = subst (FirstWrong (edition_of named) ending s) (same_number e) t
+    by (refused why) e t = subst (FirstWrong (edition_of named) ending s) (same_reason e) t
 
-    back : {why : Refusal} (m : Answer PacketAnswer) → why_in m ≡ some why → refusal_in m ≡ some why.number
+    back : {why : Refusal} (m : Answer PacketAnswer) → why_in m ≡ some why → refusal_in m ≡ some why.reason
     back (done a) e = let z : ◌≡◌ {A = ℕ} 0 1 = cc in absurd (omega arith)
-    back {why} (refused r) e = let same : r ≡ why = cc in ap (λ (x : Refusal). some x.number) same
+    back {why} (refused r) e = let same : r ≡ why = cc in ap (λ (x : Refusal). some x.reason) same
 
   pub passed-ended : (refusal_in (read_packet (edition_of named) ending s) ≡ none) ↔ Ended (edition_of named) ending s
   unfolding Outcome
@@ -139,7 +141,8 @@ module _ (named : Named) (ending : Ending) (s : List ℕ) (fits : length s ≤ p
         back (read_packet (edition_of named) ending s)
         (end-here refl (end-passes (edition_of named) ending s t.place t.follows) (reaches t.due met)),
   ) where
-    by : (m : Answer PacketAnswer) → refusal_in m ≡ none → Outcome (edition_of named) ending s (why_in m) → Ended (edition_of named) ending s
+    by : (m : Answer PacketAnswer) → refusal_in m ≡ none → Outcome (edition_of named) ending s (why_in m)
+        → Ended (edition_of named) ending s
     by (done a) e t = t
     by (refused why) e t = absurd (not-both e refl)
 

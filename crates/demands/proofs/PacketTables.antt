@@ -11,6 +11,7 @@ use borrow.Author.Tests.{lt-ltb, ltb-true, ltb-false}
 use Rattle.length.specs.Refusals.{ends_early, outside_sizes, spare_bit, left_over, not_assigned, wrong_data}
 use Rattle.length.specs.Answers.{Answer, done, refused, refuse, refuse_at, read_from, ◌>>=◌}
 use Rattle.length.specs.Tables.{when, first}
+use Rattle.length.specs.declared.Reason.{Reason}
 use Rattle.format.specs.Spelling.{gap}
 use Rattle.format.specs.Places.{Place, bits_at, edge, edge_at}
 use Rattle.datagram.specs.Sizes.{packet_limit}
@@ -26,8 +27,8 @@ use Rattle.demands.specs.Demand1.PacketItems.{has_fields, type_in, data_fits, da
 use Rattle.demands.proofs.PacketBits.{padding-bits}
 
 -- ---- a table as an answer
--- refused with the number that a table gives, at an octet, or done
-abbrev pub answered : {A : Type 0} → ℕ → Option ℕ → A → Answer A
+-- refused for the reason that a table gives, at an octet, or done
+abbrev pub answered : {A : Type 0} → ℕ → Option Reason → A → Answer A
 answered at (some n) x = refuse_at at n
 answered at none x = done x
 
@@ -38,18 +39,18 @@ bind_assoc (refused r) f g = refl
 
 module _ {A : Type 0} (at : ℕ) where
   -- a test that refuses, and one that must be met
-  refuses : (b : Bool) (n : ℕ) (m : Answer A) (table : List (Option ℕ)) (x : A) → m ≡ answered at (first table) x
+  refuses : (b : Bool) (n : Reason) (m : Answer A) (table : List (Option Reason)) (x : A) → m ≡ answered at (first table) x
       → cond b (refuse_at at n) m ≡ answered at (first (when b n ∷ table)) x
   unfolding first
   refuses true n m table x e = refl
   refuses false n m table x e = e
 
-  refuses-last : (b : Bool) (n : ℕ) (x : A) → cond b (refuse_at at n) (done x) ≡ answered at (first (when b n ∷ [])) x
+  refuses-last : (b : Bool) (n : Reason) (x : A) → cond b (refuse_at at n) (done x) ≡ answered at (first (when b n ∷ [])) x
   unfolding first
   refuses-last true n x = refl
   refuses-last false n x = refl
 
-  must : (b : Bool) (n : ℕ) (x : A) → cond b (done x) (refuse_at at n) ≡ answered at (first (when (not b) n ∷ [])) x
+  must : (b : Bool) (n : Reason) (x : A) → cond b (done x) (refuse_at at n) ≡ answered at (first (when (not b) n ∷ [])) x
   unfolding first
   must true n x = refl
   must false n x = refl
@@ -65,7 +66,7 @@ same_test a b c d there back = by (ltb c d) refl where
     over false f = f
 
 -- of two steps, each a table
-then-table : {A B : Type 0} (at : ℕ) (table more : List (Option ℕ)) (x : A) (y : B) (next : A → Answer B)
+then-table : {A B : Type 0} (at : ℕ) (table more : List (Option Reason)) (x : A) (y : B) (next : A → Answer B)
     → next x ≡ answered at (first more) y → ◌>>=◌ (answered at (first table) x) next ≡ answered at (first (table ++ more)) y
 unfolding first
 then-table at [] more x y next e = e
@@ -73,7 +74,7 @@ then-table at (some n ∷ table) more x y next e = refl
 then-table at (none ∷ table) more x y next e = then-table at table more x y next e
 
 -- ---- a value
-either-table : {A : Type 0} (b : Bool) (at : ℕ) (one other : Answer A) (table more : List (Option ℕ)) (x y : A)
+either-table : {A : Type 0} (b : Bool) (at : ℕ) (one other : Answer A) (table more : List (Option Reason)) (x y : A)
     → one ≡ answered at (first table) x → other ≡ answered at (first more) y
     → cond b one other ≡ answered at (first (cond b table more)) (cond b x y)
 either-table true at one other table more x y here there = here
@@ -118,7 +119,8 @@ unfolding rows
 first-table edition ending s = value-table (first_values edition s) 0 s 2
 
 pub allowed-table : {A : Type 0} (edition : Edition) (ending : Ending) (s : List ℕ) (p : Place) (x : A)
-    → cond (right_fields (kind_of s) (has_fields s)) (done x) (refuse wrong_data) ≡ answered 0 (first (rows edition ending fields_allowed s p)) x
+    → cond (right_fields (kind_of s) (has_fields s)) (done x) (refuse wrong_data)
+    ≡ answered 0 (first (rows edition ending fields_allowed s p)) x
 unfolding rows
 allowed-table edition ending s p x = must 0 (right_fields (kind_of s) (has_fields s)) wrong_data x
 
@@ -148,14 +150,14 @@ padding-table edition ending next s p =
     ∙ refuses-last (p / 8) (ltb 0 (bits_at (gap p) s p)) spare_bit (edge p)
 
 -- a data length, then the data
-size-tests : (at : ℕ) (b₁ b₂ b₃ : Bool) (n : ℕ) (missing : ℕ → Option ℕ) → first (when b₃ ends_early ∷ []) ≡ missing n
+size-tests : (at : ℕ) (b₁ b₂ b₃ : Bool) (n : ℕ) (missing : ℕ → Option Reason) → first (when b₃ ends_early ∷ []) ≡ missing n
     → read_from at (cond b₁ (refuse ends_early) (cond b₂ (refuse outside_sizes) (cond b₃ (refuse_at 2 ends_early) (done n))))
     ≡ ◌>>=◌ (answered at (first (when b₁ ends_early ∷ when b₂ outside_sizes ∷ [])) n) (λ n. answered (at + 2) (missing n) n)
 unfolding first
 size-tests at true b₂ b₃ n missing e = ap (λ (place : ℕ). refuse_at place ends_early) (omega arith)
 size-tests at false true b₃ n missing e = ap (λ (place : ℕ). refuse_at place outside_sizes) (omega arith)
-size-tests at false false true n missing e = ap (λ (o : Option ℕ). answered (at + 2) o n) e
-size-tests at false false false n missing e = ap (λ (o : Option ℕ). answered (at + 2) o n) e
+size-tests at false false true n missing e = ap (λ (o : Option Reason). answered (at + 2) o n) e
+size-tests at false false false n missing e = ap (λ (o : Option Reason). answered (at + 2) o n) e
 
 pub size-table : (edition : Edition) (ending : Ending) (left : ℕ) (s : List ℕ) (at : ℕ)
     → read_from at (size_at (drop at s))

@@ -13,6 +13,7 @@ use borrow.Author.Tests.{lt-ltb, le-ltb, ltb-true, ltb-false, not-true}
 use Rattle.octets.proofs.Laws.{below_or_not}
 use Rattle.length.specs.Refusals.{ends_early, not_assigned}
 use Rattle.length.specs.Tables.{when, first}
+use Rattle.length.specs.declared.Reason.{Reason}
 use Rattle.format.specs.Places.{Place, bits_at}
 use Rattle.format.proofs.Laws.{bits-more}
 use Rattle.packet.specs.Edition.{added_width}
@@ -32,11 +33,11 @@ module _ (e : Enumerated) (s : List ℕ) (p : Place) where
   unfoldable pub ends_by : Bool → Place
   ends_by added = cond added (p + 1 + 1 + added_width) (behind_mark e p + e.width)
 
-  unfoldable pub rows_by : Bool → List (Option ℕ)
+  unfoldable pub rows_by : Bool → List (Option Reason)
   rows_by added = cond added (added_rows e s (p + 1)) (root_rows e s (behind_mark e p))
 
   -- each row is one of the two cases
-  pub value-wrong : (Case : ℕ → Type 0) → (CutValue e s p → Case ends_early) → (Unassigned e s p → Case not_assigned) → (n : ℕ)
+  pub value-wrong : (Case : Reason → Type 0) → (CutValue e s p → Case ends_early) → (Unassigned e s p → Case not_assigned) → (n : Reason)
       → first (value_rows e s p) ≡ some n → Case n
   unfolding value_rows ends_by rows_by
   value-wrong Case cut wrong n = by (is_added e s p) refl where

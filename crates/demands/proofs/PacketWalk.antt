@@ -1,6 +1,6 @@
--- The packet reader goes by the items' tables, one after the other: it refuses with the first wrong item's number, at its octet, and
+-- The packet reader goes by the items' tables, one after the other: it refuses for the first wrong item's reason, at its octet, and
 -- where there is none, a packet stands there and nothing is left over. What the reader comes to is met from the first value on, and what
--- is met from an item on is settled by its table: the number that it gives, or what is met from the item after it. Assumes nothing.
+-- is met from an item on is settled by its table: the reason that it gives, or what is met from the item after it. Assumes nothing.
 use Prim.Native.Nat.{ℕ, zero, suc, ◌+◌, ◌*◌, ◌/◌, ◌≤◌}
 use mathlib.Core.Path.{◌≡◌, refl, sym, ap, subst, ◌∙◌}
 use mathlib.Core.Bool.{Bool, true, false, cond}
@@ -13,11 +13,13 @@ use Rattle.length.specs.Refusals.{refusal_at, left_over, wrong_data}
 use Rattle.length.specs.declared.Refusal.{Refusal}
 use Rattle.length.specs.Answers.{Answer, done, refused, refuse, refuse_at, read_from, ◌>>=◌}
 use Rattle.length.specs.Tables.{first}
+use Rattle.length.specs.declared.Reason.{Reason}
 use Rattle.format.specs.Places.{Place, edge, edge_at}
 use Rattle.datagram.specs.Sizes.{packet_limit}
 use Rattle.packet.specs.Edition.{Edition, edition_of}
 use Rattle.packet.specs.Packet.{PacketAnswer, read_packet, right_fields, may_follow}
-use Rattle.packet_laws.specs.Octets.{bit_set_at, kind_of, Value, value_at, FirstAnswer, first_at, count_at, HeaderAnswer, header_at, size_at}
+use Rattle.packet_laws.specs.Octets.{bit_set_at, kind_of, Value, value_at, FirstAnswer, first_at, count_at, HeaderAnswer, header_at}
+use Rattle.packet_laws.specs.Octets.{size_at}
 use Rattle.packet_laws.specs.Octets.{FieldAnswer, after_header, field_at, FieldsAnswer, fields_at, end_at, packet_by_octets}
 use Rattle.packet.specs.declared.types.Ending.{Ending}
 use Rattle.packet.specs.declared.types.Named.{Named}
@@ -41,7 +43,7 @@ why_in (refused why) = some why
 module _ (edition : Edition) (ending : Ending) (s : List ℕ) where
   -- from an item on the first refusal is this one, at the octet of its item, or there is none
   pub data Met : Place → Item → Option Refusal → Type 0 where
-    wrong : {p : Place} {item : Item} {n : ℕ} → first (rows edition ending item s p) ≡ some n
+    wrong : {p : Place} {item : Item} {n : Reason} → first (rows edition ending item s p) ≡ some n
         → Met p item (some (refusal_at (octet_of item p) n))
     right : {p : Place} {item : Item} {o : Option Refusal} → first (rows edition ending item s p) ≡ none
         → Met (ends edition item s p) (due_after item s p) o → Met p item o
@@ -56,7 +58,7 @@ module _ {A B : Type 0} {edition : Edition} {ending : Ending} {s : List ℕ} whe
   step p item m x next e on =
       subst (λ (a : Answer A). Met edition ending s p item (why_in (◌>>=◌ a next))) (sym e)
       (by (first (rows edition ending item s p)) refl) where
-        by : (o : Option ℕ) → first (rows edition ending item s p) ≡ o
+        by : (o : Option Reason) → first (rows edition ending item s p) ≡ o
             → Met edition ending s p item (why_in (◌>>=◌ (answered (octet_of item p) o x) next))
         by (some n) e = wrong e
         by none e = right e on
@@ -142,7 +144,8 @@ module _ {B : Type 0} (edition : Edition) (ending : Ending) (s : List ℕ) where
       (padding-table edition ending end s p)
       (subst (λ (m : Answer B). OnFrom end (8 * edge p) m) (sym (end-table edition ending s (edge p) a))
       (by (first (rows edition ending end s (8 * edge p))) refl)) where
-        by : (o : Option ℕ) → first (rows edition ending end s (8 * edge p)) ≡ o → OnFrom end (8 * edge p) (answered (8 * edge p / 8) o a)
+        by : (o : Option Reason) → first (rows edition ending end s (8 * edge p)) ≡ o
+            → OnFrom end (8 * edge p) (answered (8 * edge p / 8) o a)
         by (some n) e = wrong e
         by none e = whole e
 

@@ -1,17 +1,18 @@
 -- The instances, computed. Assumes nothing.
+use Rattle.std.proofs.Common.{Ok}
 use Prim.Native.Nat.{ℕ, zero, suc, ◌<◌}
 use mathlib.Core.Path.{refl}
 use mathlib.Core.List.{[], ◌∷◌}
 use lib.ListN.{get_or}
 use native.Mathlib.Omega.{arith}
 use Rattle.length.specs.Tables.{unless}
-use Rattle.length.specs.declared.Written.TheVariants as written
 use Rattle.length.specs.Length.{length_at, length_octets, length_to_write, allowed, length_within}
 use Rattle.format.specs.Reading as reading
 use Rattle.format.specs.Format.{octets_front, two_front, sequence_spelt}
 use Rattle.format.specs.Spelling.{spelt, whole, wide, packed}
 use Rattle.datagram.specs.Read.{octet_at, item_at, items_at, end_of, spares_at, parity_at, extra_at, number_of, whole_of, read_datagram}
-use Rattle.datagram.specs.Write.{number_octets, item_octets, items_octets, counted_octets, datagram_octets, cut, sum_of, items_inside, datagram_to_write}
+use Rattle.datagram.specs.Write.{number_octets, item_octets, items_octets, counted_octets, datagram_octets, cut, sum_of, items_inside}
+use Rattle.datagram.specs.Write.{datagram_to_write}
 use Rattle.datagram.specs.Promise.{padded_parts, datagram_read}
 use Rattle.datagram.specs.declared.kind.Kind.TheVariants as kind
 use Rattle.packet.specs.Packet as packets
@@ -36,7 +37,7 @@ octets-spare (suc (suc (suc (suc (suc (suc zero)))))) = omega arith
 octets-spare (suc (suc (suc (suc (suc (suc (suc zero))))))) = omega arith
 octets-spare (suc (suc (suc (suc (suc (suc (suc (suc i)))))))) = omega arith
 
-packet-written : PacketWritten 0 Indicator 3 [] [] [] (0xFF ∷ 0xFF ∷ []) (0x06 ∷ 0xFF ∷ []) (written.Octets 1)
+packet-written : PacketWritten 0 Indicator 3 [] [] [] (0xFF ∷ 0xFF ∷ []) (0x06 ∷ 0xFF ∷ []) (Ok 1)
 unfolding packet_to_write packet_octets contents_of packets.packet packets.start packets.type_of_msg packets.enumerated packets.root
     packets.addition packets.data_field packets.count packets.field packets.header packets.field_data packets.size
     spelt whole wide packed sequence_spelt total one_each all_assigned right_types all_right in_sizes every unless length_octets

@@ -1,7 +1,7 @@
 -- What a session knows is what the calls so far reached (Knows): so at the start, after a call that changed nothing, and once a
 -- number left. Arriving has the same of an accepted offer. Places of the view are g places below those of the session, g
 -- being the numbers that have left. Assumes nothing.
-use Prim.Native.Nat.{ℕ, suc, ◌+◌, ◌-◌, ◌≤◌, ◌<◌}
+use Prim.Native.Nat.{ℕ, suc, ◌+◌, ◌≤◌, ◌<◌}
 use mathlib.Core.Path.{◌≡◌, sym, ap, subst, ◌∙◌}
 use mathlib.Core.Logic.{⊎_elim}
 use mathlib.Core.Bool.{Bool, true}

@@ -1,4 +1,5 @@
 -- Where each call places its refusals: offer where the datagram reader does, all others but the readers at 0. Assumes nothing.
+use Rattle.std.proofs.Common.{Option, Some, None}
 use Prim.Native.Nat.{ℕ}
 use mathlib.Core.Path.{◌≡◌, refl, sym, ap, ◌∙◌}
 use mathlib.Core.Logic.{⊎_elim}
@@ -14,14 +15,14 @@ use Rattle.length.specs.Length.{length_at, within, allowed, length_within, lengt
 use Rattle.length.specs.declared.Refusal.{Refusal}
 use Rattle.length.proofs.Laws.{AtFront, refuse-front, done-front, cond-front, length_front}
 use Rattle.length.proofs.Laws.{unless-front, fitted-front, front-place, mapped-place, puts-place}
+use Rattle.length.specs.declared.Reason.{Reason}
 use Rattle.datagram.specs.Carried.{Carried}
 use Rattle.datagram.specs.Read.{read_datagram, carried_by}
 use Rattle.datagram.specs.Write.{datagram_to_write}
 use Rattle.datagram.specs.declared.kind.Kind.{Kind}
+use Rattle.packet.specs.declared.types.Named.{Named}
 use Rattle.packet.specs.Edition.{Edition, choice_of, of_choice}
 use Rattle.packet.specs.Write.{packet_to_write}
-use Rattle.packet.specs.declared.types.Choice.{Choice}
-use Rattle.packet.specs.declared.types.Choice.TheVariants as choice
 use Rattle.packet.specs.declared.types.PacketKind as packets
 use Rattle.packet.specs.Promise.{packet_by}
 use Rattle.session.specs.Cells.{unknown_at, kept_before, kept_ahead}
@@ -62,7 +63,8 @@ ranged-place : {A : Type 0} (b : Bool) (m : Answer A) → place_in (cond b m (re
 ranged-place true m = refl
 ranged-place false m = refl
 
-offer-place : (octets : List ℕ) (s : Session) → place_in (offer_of octets s) ≡ cond (session_in_ranges s) (place_in (read_datagram octets)) 0
+offer-place : (octets : List ℕ) (s : Session)
+    → place_in (offer_of octets s) ≡ cond (session_in_ranges s) (place_in (read_datagram octets)) 0
 unfolding offer_of offers.offer
 offer-place octets s =
     ranged-place (session_in_ranges s) (offers.offer octets (view_of s))
@@ -100,9 +102,9 @@ packet-writer : (octet : ℕ) (kind : packets.PacketKind) (value : ℕ) (types l
     → AtFront (packet_by octet kind value types lengths octets)
 unfolding packet_to_write
 packet-writer octet kind value types lengths octets = by (choice_of octet) where
-  by : (c : Choice) → AtFront (of_choice c (λ (e : Edition). packet_to_write e kind value types lengths octets))
-  by (choice.Edition named) = unless-front _ _
-  by choice.Neither = refuse-front wrong_settings
+  by : (c : Option Named) → AtFront (of_choice c (λ (e : Edition). packet_to_write e kind value types lengths octets))
+  by (Some named) = unless-front _ _
+  by None = refuse-front wrong_settings
 
 line-front : (line : List ℕ) → AtFront (line_octets line)
 unfolding line_octets
@@ -127,7 +129,7 @@ image-writer s = unless-front _ _
 
 image-place : (text : List ℕ) → place_in (read_text text) ≡ 0
 image-place text = by (read_text text) refl where
-  at_front : {why : Refusal} {n : ℕ} → why ≡ refusal n → why.place ≡ 0
+  at_front : {why : Refusal} {n : Reason} → why ≡ refusal n → why.place ≡ 0
   at_front same = ap (λ (r : Refusal). r.place) same
 
   by : (a : Answer View) → read_text text ≡ a → place_in a ≡ 0

@@ -1,7 +1,7 @@
 -- Offer and release refuse exactly what their tables say, and a refusal changes nothing. Assumes nothing.
-use Prim.Native.Nat.{ℕ, ◌+◌, ◌-◌, ◌*◌, ◌≤◌, ◌<◌}
+use Prim.Native.Nat.{ℕ, ◌+◌, ◌*◌, ◌≤◌, ◌<◌}
 use mathlib.Core.Path.{◌≡◌, refl, sym, ap, ◌∙◌}
-use mathlib.Core.Logic.{◌⊎◌, ⊎_elim}
+use mathlib.Core.Logic.{⊎_elim}
 use mathlib.Core.Bool.{Bool, true, false, not, cond, ◌&&◌}
 use mathlib.Core.List.{List, [], ◌∷◌}
 use mathlib.Core.Option.{some}
@@ -15,6 +15,7 @@ use Rattle.length.specs.Refusals.{all_passed, outside_ranges}
 use Rattle.length.specs.Answers.{Answer, done, refused, refuse}
 use Rattle.length.specs.Answers as answers
 use Rattle.length.specs.Tables.{when, first, refusal_in}
+use Rattle.length.specs.declared.Reason.{Reason}
 use Rattle.length.proofs.Laws.{row, row-met, row_step, no_row}
 use Rattle.datagram.specs.Carried.{Carried}
 use Rattle.datagram.specs.Read.{DatagramParts, read_datagram, carried_by}
@@ -87,7 +88,7 @@ accepted-refusal : (a : Answer View) → refusal_in (accepted_of a) ≡ refusal_
 accepted-refusal (done v) = refl
 accepted-refusal (refused why) = refl
 
-after-refused : (a : Answer View) (s t : Session) (n : ℕ) → refusal_in a ≡ some n → After a s t → t ≡ s
+after-refused : (a : Answer View) (s t : Session) (n : Reason) → refusal_in a ≡ some n → After a s t → t ≡ s
 after-refused (done v) s t n e state = let z : ◌≡◌ {A = ℕ} 0 1 = cc in absurd (omega arith)
 after-refused (refused why) s t n e state = state
 
@@ -105,7 +106,8 @@ handed-refusal : (a : Answer Release) → refusal_in (handed_of a) ≡ refusal_i
 handed-refusal (done v) = refl
 handed-refusal (refused why) = refl
 
-release-refused : (a : Answer Release) (s t : Session) (old : List ℕ) (n : ℕ) → refusal_in a ≡ some n → After (view_after_release a) s t
+release-refused : (a : Answer Release) (s t : Session) (old : List ℕ) (n : Reason) → refusal_in a ≡ some n
+    → After (view_after_release a) s t
     → (t ≡ s) × (answers.over (outcome.octets_handed a) old ≡ old)
 release-refused (done v) s t old n e state = let z : ◌≡◌ {A = ℕ} 0 1 = cc in absurd (omega arith)
 release-refused (refused why) s t old n e state = (state, refl)

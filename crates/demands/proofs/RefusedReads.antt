@@ -1,7 +1,7 @@
 -- The readers refuse exactly what their tables and items say. Assumes nothing.
-use Prim.Native.Nat.{ℕ, ◌+◌, ◌-◌}
+use Prim.Native.Nat.{ℕ, ◌+◌}
 use mathlib.Core.Path.{◌≡◌, refl, sym, ap, ◌∙◌}
-use mathlib.Core.Logic.{◌↔◌, ◌⊎◌, ⊎_elim}
+use mathlib.Core.Logic.{◌↔◌, ⊎_elim}
 use mathlib.Core.Bool.{Bool, true, false, not, cond, ◌&&◌}
 use mathlib.Core.List.{List, [], ◌∷◌, ◌++◌, map}
 use mathlib.Core.Option.{Option, none, some}
@@ -16,6 +16,7 @@ use Rattle.length.specs.Tables.{when, first, refusal_in}
 use Rattle.length.specs.Length.{length_at, of_two, within, allowed, length_within}
 use Rattle.length.proofs.Laws.{done_none, done-same}
 use Rattle.length.specs.Claims.{Octets}
+use Rattle.length.specs.declared.Reason.{Reason}
 use Rattle.datagram.specs.Read.{octets_of, read_datagram}
 use Rattle.datagram.specs.Claims.{lengths_of, run_of}
 use Rattle.datagram.proofs.Claims as datagrams
@@ -78,13 +79,13 @@ length-here s a e =
     (ltb (of_two (get_or s 0 0) (get_or s 1 0)) 0x80) _ _ a e
 
 -- rows before others: none of them applies, or one does
-rows_none : (rows more : List (Option ℕ)) → first rows ≡ none → first (rows ++ more) ≡ first more
+rows_none : (rows more : List (Option Reason)) → first rows ≡ none → first (rows ++ more) ≡ first more
 unfolding first
 rows_none [] more e = refl
 rows_none (some n ∷ rows) more e = let z : ◌≡◌ {A = ℕ} 0 1 = cc in absurd (omega arith)
 rows_none (none ∷ rows) more e = rows_none rows more e
 
-rows-some : (rows more : List (Option ℕ)) (n : ℕ) → first rows ≡ some n → first (rows ++ more) ≡ some n
+rows-some : (rows more : List (Option Reason)) (n : Reason) → first rows ≡ some n → first (rows ++ more) ≡ some n
 unfolding first
 rows-some [] more n e = let z : ◌≡◌ {A = ℕ} 0 1 = cc in absurd (omega arith)
 rows-some (some k ∷ rows) more n e = e
@@ -99,12 +100,13 @@ within-rows : (least most : ℕ) (s : List ℕ) → refusal_in (length_within le
 unfolding length_within within_rows allowed
 within-rows least most s = by (length_at s) refl where
   by : (a : Answer LengthAnswer) → length_at s ≡ a
-      → refusal_in (◌>>=◌ a (allowed least most)) ≡ first (length_rows s ++ (when (not (within least most (length_here s))) outside_sizes ∷ []))
+      → refusal_in (◌>>=◌ a (allowed least most))
+      ≡ first (length_rows s ++ (when (not (within least most (length_here s))) outside_sizes ∷ []))
   by (done l) e =
       allowed-row (within least most l.value) l
       ∙ ap (λ (v : ℕ). first (when (not (within least most v)) outside_sizes ∷ [])) (sym (length-here s l e))
       ∙ sym (rows_none (length_rows s) _ (sym (length-rows s) ∙ ap refusal_in e))
-  by (refused why) e = sym (rows-some (length_rows s) _ why.number (sym (length-rows s) ∙ ap refusal_in e))
+  by (refused why) e = sym (rows-some (length_rows s) _ why.reason (sym (length-rows s) ∙ ap refusal_in e))
 
 -- ---- readers
 is-datagram : (s : List ℕ) → Octets s → (refusal_in (read_datagram s) ≡ none) ↔ IsDatagram s
@@ -166,7 +168,7 @@ is-repaired named s octets = (
 )
 
 -- the same of a call with that refusal
-of-call : {told said : Option ℕ} {P : Type 0} → told ≡ said → (said ≡ none) ↔ P → (told ≡ none) ↔ P
+of-call : {told said : Option Reason} {P : Type 0} → told ≡ said → (said ≡ none) ↔ P → (told ≡ none) ↔ P
 of-call same t = (λ e. t.0 (sym same ∙ e), λ p. same ∙ t.1 p)
 
 pub readers : Readers

@@ -1,5 +1,6 @@
 -- The round trips over the promises: what a writer left at the front of the lent buffer is what its definition gives, what a
 -- reader answered is what its definition reads, and each layer's two definitions agree. Assumes nothing.
+use Rattle.std.proofs.Common.{Result, Ok, Err, Option, Some, None}
 use Prim.Native.Nat.{ℕ, ◌-◌, ◌≤◌}
 use mathlib.Core.Path.{◌≡◌, refl, sym, ap, ◌∙◌}
 use mathlib.Core.List.{List, [], ◌++◌, map}
@@ -8,28 +9,23 @@ use lib.Seq.{take-append_seam, drop-append_seam, take_at, length-take-le}
 use lib.Dec.{leb, ltb}
 use native.Mathlib.Omega.{arith}
 use borrow.Author.Tests.{le-leb, le-ltb, ltb-false}
+use Rattle.length.specs.declared.Refusal.{Refusal}
 use Rattle.length.specs.Tables.{unless}
 use Rattle.length.specs.Refusals.{no_room, outside_sizes, wrong_settings}
 use Rattle.length.specs.Answers.{Answer, done, refused, refuse, LengthAnswer, length_outcome, written_outcome, fitted, size_of}
 use Rattle.length.specs.Length.{length_at, length_octets, length_limit, length_writer_rows, length_to_write}
 use Rattle.length.specs.Promise.{Puts}
-use Rattle.length.specs.Claims.{Octets}
-use Rattle.length.specs.declared.Length.TheVariants as length
-use Rattle.length.specs.declared.Written.{Written}
-use Rattle.length.specs.declared.Written.TheVariants as written
 use Rattle.length.proofs.Claims as lengths
 use Rattle.length.proofs.Laws.{value_read, sizes-read, cond-met, unless-past, unless-done}
 use Rattle.datagram.specs.Sizes.{spares_limit}
-use Rattle.datagram.specs.Carried.{spares, Carried}
+use Rattle.datagram.specs.Carried.{Carried}
 use Rattle.datagram.specs.Read.{DatagramParts, octets_of, read_datagram, carried_by}
 use Rattle.datagram.specs.Write.{extra_of}
-use Rattle.datagram.specs.Promise.{DatagramReads, datagram_read, datagram_outcome, padded_parts, nowhere}
+use Rattle.datagram.specs.Promise.{DatagramReads, datagram_read, read_outcome, padded_parts, nowhere}
 use Rattle.datagram.specs.Claims as datagram_claims
 use Rattle.datagram.specs.declared.kind.Kind.{Kind}
 use Rattle.datagram.specs.declared.kind.Kind.TheVariants as kind
 use Rattle.datagram.specs.declared.reader.DatagramRead.{DatagramRead}
-use Rattle.datagram.specs.declared.reader.Reading.{Reading}
-use Rattle.datagram.specs.declared.reader.Reading.TheVariants as reading
 use Rattle.datagram.proofs.Claims as datagrams
 use Rattle.packet.specs.Edition.{Edition, edition_of, choice_of, of_choice, by_edition}
 use Rattle.packet.specs.Packet.{all_data, fields_limit, no_field, PacketAnswer, read_packet}
@@ -37,15 +33,12 @@ use Rattle.packet.specs.Write.{packet_to_write}
 use Rattle.packet.specs.Promise as packet_promise
 use Rattle.packet.specs.Promise.{PacketTold, packet_read, padded_fields}
 use Rattle.packet.specs.Claims as packet_claims
-use Rattle.packet.specs.declared.types.Choice.{Choice}
-use Rattle.packet.specs.declared.types.Choice.TheVariants as choice
 use Rattle.packet.specs.declared.types.PacketKind as packets
 use Rattle.packet.specs.declared.types.Named.{Named}
 use Rattle.packet.specs.declared.types.Field.{Field}
 use Rattle.packet.specs.declared.types.Ending.{Ending}
 use Rattle.packet.specs.declared.types.Ending.TheVariants.{Whole, Repaired}
 use Rattle.packet.specs.declared.types.PacketRead.{PacketRead}
-use Rattle.packet.specs.declared.types.PacketReading as packet_readings
 use Rattle.packet.proofs.Claims as packet_proofs
 use Rattle.sender.proofs.Laws.{size-done}
 use Rattle.sender.proofs.Claims as sending
@@ -66,7 +59,7 @@ pub done-fitted : (s old : List ℕ) → length s ≤ length old → fitted (don
 done-fitted s old room = rw (le-leb (length s) (length old) room)
 
 -- a write that answered n octets left what was to be written
-pub puts-octets : {w : Answer (List ℕ)} {old new : List ℕ} {r : Written} {n : ℕ} → Puts w old new r → r ≡ written.Octets n
+pub puts-octets : {w : Answer (List ℕ)} {old new : List ℕ} {r : Result ℕ Refusal} {n : ℕ} → Puts w old new r → r ≡ Ok n
     → (w ≡ done (take n new)) × (n ≡ length (take n new))
 puts-octets {w} {old} {new} {r} {n} puts e =
     let told : done n ≡ size_of (fitted w old) = rw e at puts.answer in
@@ -75,12 +68,12 @@ puts-octets {w} {old} {new} {r} {n} puts e =
     let front : take n new ≡ t.0 = rw laid (take_at t.0 (drop (length t.0) old) n (sym t.2)) in
     (rw front (fitted-done w old t.0 t.1), rw front t.2)
 
-octets-told : (r : Written) (n : ℕ) → written_outcome r ≡ done n → r ≡ written.Octets n
-octets-told (written.Octets k) n e = cc
-octets-told (written.Refused why) n e = let z : ◌≡◌ {A = ℕ} 0 1 = cc in absurd (omega arith)
+octets-told : (r : Result ℕ Refusal) (n : ℕ) → written_outcome r ≡ done n → r ≡ Ok n
+octets-told (Ok k) n e = cc
+octets-told (Err why) n e = let z : ◌≡◌ {A = ℕ} 0 1 = cc in absurd (omega arith)
 
 -- a write of octets that have room leaves them at the front
-pub puts_back : {w : Answer (List ℕ)} {s old new : List ℕ} {r : Written} {n : ℕ} → Puts w old new r → w ≡ done s → n ≡ length s
+pub puts_back : {w : Answer (List ℕ)} {s old new : List ℕ} {r : Result ℕ Refusal} {n : ℕ} → Puts w old new r → w ≡ done s → n ≡ length s
     → n ≤ length old → WrittenBack n s old new r
 puts_back {w} {s} {old} {new} {r} {n} puts is long room =
     let fits : fitted w old ≡ done s = rw is (done-fitted s old (omega arith)) in
@@ -110,7 +103,7 @@ length-trips =
           let t = puts-octets puts e in
           let is = length-done value (take n new) t.0 in
           let size : n ≡ length (length_octets value) = t.1 ∙ ap length is.1 in
-          lengths.length-told r (length.Value value n)
+          lengths.length-told r (Ok (record { value = value; size = n }))
           (read.answer ∙ ap (λ (l : List ℕ). length_at (l ++ more)) is.1 ∙ (lengths.claims).written_reads value more is.0
           ∙ ap (λ (k : ℕ). done (record { value = value; size = k })) (sym size));
       writes_back =
@@ -133,7 +126,7 @@ extra-same (kind.Parity n) (kind.Parity m) xs ys e =
     (ap (λ (x : ℕ). kind.Parity x) same, cc)
 
 -- what reads as a datagram is told so
-same-told : {s : List ℕ} {number : ℕ} {packet : List ℕ} (kind : Kind) {items : List (List ℕ)} {r : DatagramRead}
+same-told : {s : List ℕ} {number : ℕ} {packet : List ℕ} (kind : Kind) {items : List (List ℕ)} {r : Result DatagramRead Refusal}
     → datagram_claims.ReadsAs s (record { number = number; packet = packet; extra = extra_of kind items })
     → DatagramReads s r
     → DatagramSame s number packet kind items r
@@ -147,12 +140,19 @@ same-told {s} {number} {packet} kind {items} {r} reads told =
     let unused = replicate (spares_limit - length d.items) nowhere in
     record {
       newest = d.packet;
+      places = d.items ++ unused;
       answer =
           rw (whole, long, ← extra.0)
-          (ap (λ (n : ℕ). reading.Datagram n d.packet d.kind (length d.items)) (ap (λ (c : Carried). c.number) is));
+          (ap (λ (n : ℕ). Ok (record {
+            number = n;
+            packet = d.packet;
+            kind = d.kind;
+            count = length d.items;
+            items = d.items ++ unused;
+          })) (ap (λ (c : Carried). c.number) is));
       packet_same = ap (λ (c : Carried). c.packet) is;
-      items_same = rw (whole, long) (ap (map (octets_of s)) (take-append_seam d.items unused) ∙ extra.1);
-      unused = rw (whole, long) (drop-append_seam d.items unused);
+      items_same = rw long (ap (map (octets_of s)) (take-append_seam d.items unused) ∙ extra.1);
+      unused = rw long (drop-append_seam d.items unused);
     }
 
 datagram-trips : DatagramTrips
@@ -162,15 +162,16 @@ datagram-trips =
           λ number packet kind lengths run {old} {new} {w} {n} puts e {r} told.
           same-told kind ((datagrams.claims).written_reads number packet kind lengths run (take n new) (puts-octets puts e).0) told;
       writes_back =
-          λ {octets = s} {r} {number} {packet} {kind} {count} octets told e {old} {new} {w} puts room.
-          let d : DatagramParts = record { number = number; packet = packet; kind = kind; items = take count r.items } in
-          let is : read_datagram s ≡ done d = sym told.answer ∙ ap (λ (x : Reading). datagram_outcome x r.items) e in
-          puts_back puts ((datagrams.claims).read_writes s d octets is) refl room;
+          λ {octets = s} {r} {d} octets told e {old} {new} {w} puts room.
+          let parts : DatagramParts = record { number = d.number; packet = d.packet; kind = d.kind; items = take d.count d.items } in
+          let is : read_datagram s ≡ done parts = sym told.answer ∙ ap read_outcome e in
+          puts_back puts ((datagrams.claims).read_writes s parts octets is) refl room;
     }
 
 -- ---- packets
 packet-told : {edition : Edition} {ending : Ending} {s : List ℕ} {kind : packets.PacketKind} {value : ℕ} {types lengths octets : List ℕ}
-    {r : PacketRead} → packet_claims.PacketReadsAs edition ending s kind value types lengths octets → PacketTold (read_packet edition ending s) r
+    {r : Result PacketRead Refusal} → packet_claims.PacketReadsAs edition ending s kind value types lengths octets
+    → PacketTold (read_packet edition ending s) r
     → PacketSame s kind value types lengths octets r
 unfolding padded_fields
 packet-told {edition} {ending} {s} {kind} {value} {types} {lengths} {octets} {r} reads told =
@@ -180,21 +181,22 @@ packet-told {edition} {ending} {s} {kind} {value} {types} {lengths} {octets} {r}
     let unused = replicate (fields_limit - length p.fields) no_field in
     let front = take-append_seam p.fields unused in
     record {
+      fields = padded_fields p.fields;
       answer = rw (whole, long, ← reads.kind_same, ← reads.value_same) refl;
-      types_same = rw (whole, long) (ap (map (λ (f : Field). f.kind)) front ∙ reads.types_same);
-      lengths_same = rw (whole, long) (ap (map (λ (f : Field). f.size)) front ∙ reads.lengths_same);
-      octets_same = rw (whole, long) (ap (all_data s) front ∙ reads.octets_same);
-      unused = rw (whole, long) (drop-append_seam p.fields unused);
+      types_same = rw long (ap (map (λ (f : Field). f.kind)) front ∙ reads.types_same);
+      lengths_same = rw long (ap (map (λ (f : Field). f.size)) front ∙ reads.lengths_same);
+      octets_same = rw long (ap (all_data s) front ∙ reads.octets_same);
+      unused = rw long (drop-append_seam p.fields unused);
     }
 
 -- a call that is not refused names an edition
 chosen : {A : Type 0} (octet : ℕ) (answer : Edition → Answer A) (a : A) → by_edition octet answer ≡ done a
     → (named : Named) × Names octet named × (answer (edition_of named) ≡ done a)
 chosen {A} octet answer a e = by (choice_of octet) refl where
-  by : (c : Choice) → choice_of octet ≡ c → (named : Named) × Names octet named × (answer (edition_of named) ≡ done a)
-  by (choice.Edition named) is = (named, is, sym (ap (λ (c : Choice). of_choice c answer) is) ∙ e)
-  by choice.Neither is =
-      let clash : refuse wrong_settings ≡ done a = sym (ap (λ (c : Choice). of_choice c answer) is) ∙ e in
+  by : (c : Option Named) → choice_of octet ≡ c → (named : Named) × Names octet named × (answer (edition_of named) ≡ done a)
+  by (Some named) is = (named, is, sym (ap (λ (c : Option Named). of_choice c answer) is) ∙ e)
+  by None is =
+      let clash : refuse wrong_settings ≡ done a = sym (ap (λ (c : Option Named). of_choice c answer) is) ∙ e in
       let z : ◌≡◌ {A = ℕ} 0 1 = cc in
       absurd (omega arith)
 
@@ -216,15 +218,14 @@ packet-trips =
           c.2 (omega (arith, t.1)) in
           packet-told reads (read_as octet c.0 Repaired (take n new ++ replicate zeros 0) c.1 told);
       writes_back =
-          λ octet s {r} {kind} {value} {count} octets told e {old} {new} {w} puts room.
-          let p : PacketAnswer = record { kind = kind; value = value; fields = take count r.fields } in
-          let is : by_edition octet (λ (e : Edition). read_packet e Whole s) ≡ done p =
-          sym told.answer ∙ ap (λ (x : packet_readings.PacketReading). packet_promise.reading_outcome x r.fields) e in
-          let c = chosen octet (λ (e : Edition). read_packet e Whole s) p is in
-          let back = (packet_proofs.claims).read_writes (edition_of c.0) s p octets c.2 in
+          λ octet s {r} {p} octets told e {old} {new} {w} puts room.
+          let a : PacketAnswer = record { kind = p.kind; value = p.value; fields = take p.count p.fields } in
+          let is : by_edition octet (λ (e : Edition). read_packet e Whole s) ≡ done a = sym told.answer ∙ ap packet_promise.packet_outcome e in
+          let c = chosen octet (λ (e : Edition). read_packet e Whole s) a is in
+          let back = (packet_proofs.claims).read_writes (edition_of c.0) s a octets c.2 in
           let write : Edition → Answer (List ℕ) =
-          λ e. packet_to_write e kind value (types_of count r) (sizes_of count r) (data_read s count r) in
-          puts_back puts (ap (λ (x : Choice). of_choice x write) c.1 ∙ back) refl room;
+          λ e. packet_to_write e p.kind p.value (types_of p.count p.fields) (sizes_of p.count p.fields) (data_read s p.count p.fields) in
+          puts_back puts (ap (λ (x : Option Named). of_choice x write) c.1 ∙ back) refl room;
     }
 
 -- ---- the sending session

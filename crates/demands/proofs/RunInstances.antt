@@ -2,15 +2,15 @@
 use Prim.Native.Nat.{ℕ, ◌≤◌}
 use mathlib.Core.Path.{◌≡◌, refl, sym, ap, subst, ◌∙◌}
 use mathlib.Core.Bool.{true}
-use mathlib.Core.List.{List, [], ◌++◌}
-use lib.ListN.{length, drop, length-drop}
+use mathlib.Core.List.{List, []}
+use lib.ListN.{length, length-drop}
 use native.Mathlib.Omega.{arith}
 use borrow.Author.Tests.{le-ltb}
 use Rattle.octets.specs.Place.{tab, all_below}
 use Rattle.length.specs.Tables.{unless}
 use Rattle.session.specs.View.{View, fresh_view}
 use Rattle.session.specs.Release.{release}
-use Rattle.session_held.specs.Table.{lent_by, view_in, view_of}
+use Rattle.session_held.specs.Table.{lent_by, view_in}
 use Rattle.session_held.specs.Laid.{InRanges}
 use Rattle.session_held.specs.Promise.{Fresh}
 use Rattle.session_held.specs.declared.Session.{Session}
@@ -29,7 +29,7 @@ use Rattle.demands.specs.Demand3.Feeding.{fresh}
 use Rattle.demands.specs.Demand3.Example.{example_row, example_datagrams}
 use Rattle.demands.specs.Program.{Running, start, block}
 use Rattle.demands.specs.Requests.Handover.{Wrote, ReadAs}
-use Rattle.demands.specs.RunInstances.{no_line, refused_line, LineTaken, fresh_text, FreshHandedOver, RunInstances}
+use Rattle.demands.specs.RunInstances.{no_line, refused_line, fresh_text, FreshHandedOver, RunInstances}
 use Rattle.demands.proofs.Example as example
 use Rattle.demands.proofs.ImageCalls.{wrote-image, every_one}
 use Rattle.demands.proofs.Handover as handover
@@ -39,7 +39,8 @@ abbrev begins : Going
 begins = record { text = []; view = fresh_view; begun = [] }
 
 refused-line : fed (characters "0\n") begins ≡ record { text = characters "FF0F0000\n"; view = fresh_view; begun = [] }
-unfolding characters fed taken_in longer line_done step answer_line offer_line line_offered releases_f refusal_line line_octets unless octets_in
+unfolding characters fed taken_in longer line_done step answer_line offer_line line_offered releases_f refusal_line line_octets unless
+    octets_in
     all_digits digit_of digit_for hex_of release fresh_view tab all_below
 refused-line = refl
 

@@ -8,9 +8,10 @@ use mathlib.Core.Option.{Option, some, none-ne-some, some-injective}
 use lib.ListN.{length}
 use lib.Dec.{leb}
 use native.Mathlib.Omega.{arith}
-use Rattle.length.specs.Refusals.{outside_sizes, no_room, wrong_settings, all_passed, outside_ranges}
+use Rattle.length.specs.Refusals.{outside_sizes, no_room, wrong_settings, all_passed, outside_ranges, number_of}
 use Rattle.length.specs.Answers.{Answer, done, refused, written_outcome, fitted}
 use Rattle.length.specs.Tables.{when, first, refusal_in}
+use Rattle.length.specs.declared.Reason.{Reason}
 use Rattle.datagram.specs.Write.{datagram_octets}
 use Rattle.session.specs.View.{session_limit}
 use Rattle.sender.specs.Carries.{settings_inside}
@@ -40,15 +41,16 @@ from-proper p (sent {t = t} {settings = settings} {packet = packet} {old = old} 
 
 -- the rows after 17
 not-17 : (passed wrong size room : Bool)
-    → first (when passed all_passed ∷ when wrong wrong_settings ∷ when size outside_sizes ∷ when room no_room ∷ []) ≡ some outside_ranges → ⊥
+    → first (when passed all_passed ∷ when wrong wrong_settings ∷ when size outside_sizes ∷ when room no_room ∷ []) ≡ some outside_ranges
+    → ⊥
 unfolding first
-not-17 true wrong size room e = let same = some-injective all_passed outside_ranges e in omega arith
-not-17 false true size room e = let same = some-injective wrong_settings outside_ranges e in omega arith
-not-17 false false true room e = let same = some-injective outside_sizes outside_ranges e in omega arith
-not-17 false false false true e = let same = some-injective no_room outside_ranges e in omega arith
+not-17 true wrong size room e = let same = ap number_of (some-injective all_passed outside_ranges e) in omega arith
+not-17 false true size room e = let same = ap number_of (some-injective wrong_settings outside_ranges e) in omega arith
+not-17 false false true room e = let same = ap number_of (some-injective outside_sizes outside_ranges e) in omega arith
+not-17 false false false true e = let same = ap number_of (some-injective no_room outside_ranges e) in omega arith
 not-17 false false false false e = none-ne-some outside_ranges e
 
-in-ranges : (inside : Bool) (rows : List (Option ℕ)) → inside ≡ true → first (when (not inside) outside_ranges ∷ rows) ≡ first rows
+in-ranges : (inside : Bool) (rows : List (Option Reason)) → inside ≡ true → first (when (not inside) outside_ranges ∷ rows) ≡ first rows
 unfolding first
 in-ranges inside rows e = rw e
 

@@ -1,8 +1,9 @@
 -- The four conditions are needed: what the calls return is computed. Assumes nothing.
 use Prim.Native.Nat.{ℕ, ◌<◌}
+use Rattle.session_release.specs.declared.Released.{Released}
 use mathlib.Core.Path.{◌≡◌, refl, sym, ap, subst, ◌∙◌}
 use mathlib.Core.Bool.{true}
-use mathlib.Core.List.{List, [], ◌∷◌, ◌++◌, append-nil}
+use mathlib.Core.List.{List, [], ◌∷◌, append-nil}
 use lib.ListN.{length, get_or, take}
 use native.Mathlib.Omega.{arith}
 use borrow.Author.Tests.{le-ltb}
@@ -23,8 +24,7 @@ use Rattle.session.specs.Release.{release, moved_on}
 use Rattle.session_held.specs.Table.{lent_by, view_of}
 use Rattle.session_held.specs.declared.Session.{Session}
 use Rattle.session_calls.specs.Receiver.{SeenAs}
-use Rattle.session_calls.specs.declared.receiver.AfterOffer.{AfterOffer}
-use Rattle.session_calls.specs.declared.receiver.AfterRelease.{AfterRelease}
+use Rattle.session_calls.specs.declared.Returned.{Returned}
 use Rattle.sender.specs.Honest.{packet_at}
 use Rattle.line.specs.Hex.{digit_for, hex_of}
 use Rattle.image.specs.Layout.{image_version02}
@@ -89,7 +89,7 @@ none_left : length (left_by start) ≡ 0
 unfolding left_by
 none_left = refl
 
-module _ {s : Session} {r : AfterRelease} {text later : List ℕ} (g : GaveUp s r text later) where
+module _ {s : Session} {r : Returned Released} {text later : List ℕ} (g : GaveUp s r text later) where
   seen-later : SeenAs without0 r.session
   seen-later =
       subst (λ (v : View). SeenAs v r.session) (gives_up (length g.old)) (released-seen (fresh-seen s g.begun) g.call)
@@ -144,7 +144,8 @@ abbrev misled : View
 misled = accept 0 carried fresh_view
 
 takes-strange : offers.offer strange fresh_view ≡ done misled
-unfolding offers.offer offered fresh_view read_datagram carried_by number_of whole_of extra_at spares_at items_at item_at length_within allowed end_of
+unfolding offers.offer offered fresh_view read_datagram carried_by number_of whole_of extra_at spares_at items_at item_at length_within
+    allowed end_of
     length_at
 takes-strange = refl
 
@@ -171,7 +172,7 @@ near-0 : Near 0 fresh_view
 unfolding fresh_view
 near-0 = record { ahead = omega arith; behind = omega arith }
 
-module _ {s : Session} {o : AfterOffer} {text : List ℕ} (m : Misled s o text) where
+module _ {s : Session} {o : Returned (Unit {0})} {text : List ℕ} (m : Misled s o text) where
   seen-misled : SeenAs misled o.session
   seen-misled = then-seen (fresh-seen s m.begun) m.call (done misled) takes-strange
 

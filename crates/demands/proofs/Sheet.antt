@@ -9,7 +9,8 @@ use Rattle.format.specs.Format.{octets_front, two_front}
 use Rattle.packet.specs.Packet as packets
 use Rattle.packet.specs.Packet.{every, read_packet}
 use Rattle.packet.proofs.Claims as packet-claims
-use Rattle.datagram.specs.Read.{octet_at, item_at, items_at, end_of, spares_at, parity_at, extra_at, number_of, whole_of, read_datagram, carried_by}
+use Rattle.datagram.specs.Read.{octet_at, item_at, items_at, end_of, spares_at, parity_at, extra_at, number_of, whole_of, read_datagram}
+use Rattle.datagram.specs.Read.{carried_by}
 use Rattle.datagram.specs.Write.{number_octets, item_octets, items_octets, counted_octets, datagram_octets}
 use Rattle.session.specs.Members.{members_of}
 use Rattle.session.specs.Repair.{passing, usable, first_usable, mended, fill, repair_f, repair}

@@ -11,24 +11,24 @@ use Rattle.octets.specs.ExclusiveOr.{xor_at, exclusive_or, longest}
 use Rattle.length.specs.Answers.{done}
 use Rattle.length.specs.Length.{length_at, length_octets, allowed, length_within}
 use Rattle.datagram.specs.Carried.{parity, Carried}
-use Rattle.datagram.specs.Read.{octet_at, item_at, items_at, end_of, spares_at, parity_at, extra_at, number_of, whole_of, read_datagram, carried_by}
+use Rattle.datagram.specs.Read.{octet_at, item_at, items_at, end_of, spares_at, parity_at, extra_at, number_of, whole_of, read_datagram}
+use Rattle.datagram.specs.Read.{carried_by}
 use Rattle.datagram.specs.Write.{number_octets, item_octets, items_octets, counted_octets, datagram_octets}
 use Rattle.solve_algebra.specs.Masks.{mask_of}
-use Rattle.session.specs.Cells.{Cell, filled_cell, repaired, cell_at, kept_before}
+use Rattle.session.specs.Cells.{filled_cell, repaired, cell_at, kept_before}
 use Rattle.session.specs.Members.{members_of}
 use Rattle.session.specs.Repair.{Message, passing, usable, first_usable, mended, fill, repair_f, repair}
 use Rattle.session.specs.Held.{messages_of, messages_in_row, held_messages}
 use Rattle.session.specs.Honest.{UpToZeros}
 use Rattle.session.specs.Reached.{Known, Unknown}
-use Rattle.session.specs.View.{View, fresh_view, sum}
+use Rattle.session.specs.View.{View, fresh_view}
 use Rattle.session.specs.Offer as offers
 use Rattle.session.specs.Offer.{keep, keep_spares, accept, offered}
 use Rattle.session_held.specs.Table.{view_of}
 use Rattle.session_held.specs.declared.Session.{Session}
 use Rattle.solve.specs.Equations.{padded}
-use Rattle.solve.specs.Claims.{unknown_in, Together}
-use Rattle.session_calls.specs.declared.receiver.AfterOffer.{AfterOffer}
-use Rattle.session_calls.specs.declared.solver.AfterSolve.{AfterSolve}
+use Rattle.solve.specs.Claims.{unknown_in}
+use Rattle.session_calls.specs.declared.Returned.{Returned}
 use Rattle.session_calls.proofs.SolverClaims as solver
 use Rattle.sender.specs.Send.{packet_inside}
 use Rattle.sender.specs.Carries as carries
@@ -81,12 +81,14 @@ abbrev with24 : View
 with24 = accept 4 carried4 with2
 
 takes-2 : offers.offer datagram2 fresh_view ≡ done with2
-unfolding offers.offer read_datagram carried_by number_of whole_of extra_at spares_at parity_at items_at item_at length_within octet_at allowed end_of
+unfolding offers.offer read_datagram carried_by number_of whole_of extra_at spares_at parity_at items_at item_at length_within octet_at
+    allowed end_of
     length_at offered fresh_view
 takes-2 = refl
 
 takes-4 : offers.offer datagram_over4 with2 ≡ done with24
-unfolding offers.offer read_datagram carried_by number_of whole_of extra_at spares_at parity_at items_at item_at length_within octet_at allowed end_of
+unfolding offers.offer read_datagram carried_by number_of whole_of extra_at spares_at parity_at items_at item_at length_within octet_at
+    allowed end_of
     length_at offered accept fresh_view
 takes-4 = refl
 
@@ -105,7 +107,8 @@ record Cells : Type 0 where
   missing3 : Unknown with24.cells (kept_before + 3)
 
 cells : Cells
-unfolding fresh_view accept keep keep_spares tab xor_at exclusive_or members_of passing usable first_usable mended fill repair_f repair messages_of
+unfolding fresh_view accept keep keep_spares tab xor_at exclusive_or members_of passing usable first_usable mended fill repair_f repair
+    messages_of
     messages_in_row held_messages
 cells = record { missing0 = refl; missing1 = refl; missing3 = refl }
 
@@ -118,7 +121,8 @@ unfolding fresh_view accept tab members_of messages_of messages_in_row held_mess
 held_both = refl
 
 alone-3 : mask_of (unknown_in with24.cells both) ≡ mask_of ((kept_before + 3) ∷ [])
-unfolding fresh_view accept keep keep_spares tab xor_at exclusive_or members_of passing usable first_usable mended fill repair_f repair messages_of
+unfolding fresh_view accept keep keep_spares tab xor_at exclusive_or members_of passing usable first_usable mended fill repair_f repair
+    messages_of
     messages_in_row held_messages unknown_in mask_of
 alone-3 = refl
 
@@ -130,7 +134,7 @@ unfolding fresh_view accept packet_at
 sent-3 = refl
 
 -- ---- and after it
-met : (s : Session) (two four : AfterOffer) (last again : AfterSolve) → SolvedCalls s two four last again
+met : (s : Session) (two four : Returned (Unit {0})) (last again : Returned (Unit {0})) → SolvedCalls s two four last again
     → SolvedMet four.session last.session last again
 met s two four last again c =
     let seen = fresh-seen s c.start in

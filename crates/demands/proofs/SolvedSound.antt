@@ -1,29 +1,26 @@
 -- What holds of a session that an honest sender feeds still holds after a solve. Assumes nothing.
 use Prim.Native.Nat.{ℕ, ◌+◌, ◌-◌, ◌≤◌, ◌<◌}
-use mathlib.Core.Path.{◌≡◌, refl, sym, ap, subst, ◌∙◌}
+use mathlib.Core.Path.{◌≡◌, sym, ap, subst, ◌∙◌}
 use mathlib.Core.Logic.{⊎_elim}
-use mathlib.Core.Bool.{true, false}
 use mathlib.Core.List.{List, []}
 use lib.ListN.{length, get_or, get_or-eq_default}
 use native.Mathlib.Omega.{arith}
 use Rattle.octets.proofs.Laws.{below_or_not}
 use Rattle.datagram.specs.Sizes.{packet_limit}
-use Rattle.session.specs.Cells.{Cell, kept_before, kept_ahead}
-use Rattle.session.specs.Held.{Held, nothing_held, held_at, held_messages}
+use Rattle.session.specs.Cells.{kept_before}
+use Rattle.session.specs.Held.{Held, held_at, held_messages}
 use Rattle.session.specs.Reached.{Known, Closed}
 use Rattle.session.specs.Honest.{HonestMessages, TrueCells}
-use Rattle.session.specs.View.{View, Counts, sum}
+use Rattle.session.specs.View.{View, sum}
 use Rattle.session.proofs.Laws.{held-honest}
-use Rattle.solve.specs.Solved.{Solved, SolvedTo}
+use Rattle.solve.specs.Solved.{SolvedTo}
 use Rattle.solve.specs.Claims.{HonestView}
 use Rattle.solve.proofs.Laws.{stays-known, solved-closed, solved-right}
 use Rattle.sender.specs.Sending.{history_kept}
 use Rattle.sender.specs.Honest.{HonestSender, packet_at}
 use Rattle.demands.specs.Demand3.Feeding.{place_of, sent_at}
-use Rattle.demands.proofs.Ranges.{ViewInRanges}
 use Rattle.demands.proofs.InRanges.{distinct-held}
 use Rattle.demands.proofs.Sent.{packet_at-before, packet_at-sent, packet-sized, Follows}
-use Rattle.demands.proofs.Knowing.{Brings}
 use Rattle.demands.proofs.Sound.{Marked, Sound, held-sound}
 use Rattle.demands.proofs.SolveDone.{SolveDone, solved-in-ranges}
 

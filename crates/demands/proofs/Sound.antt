@@ -1,8 +1,8 @@
 -- What holds of every session that an honest sender alone feeds: known numbers are the sender's, each held datagram is the
 -- sender's for its place, what it brought is known, and no held message adds a number. Assumes nothing.
-use Prim.Native.Nat.{ℕ, ◌+◌, ◌-◌, ◌<◌}
+use Prim.Native.Nat.{ℕ, ◌+◌, ◌<◌}
 use mathlib.Core.Path.{◌≡◌, refl, sym, ap, subst, ◌∙◌}
-use mathlib.Core.Logic.{◌⊎◌, inr, ⊎_elim}
+use mathlib.Core.Logic.{inr, ⊎_elim}
 use mathlib.Core.Bool.{true, false, true≢false, false≢true}
 use mathlib.Core.List.{List, [], Memᴰ as Among}
 use lib.ListN.{length}

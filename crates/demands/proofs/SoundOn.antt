@@ -3,7 +3,7 @@
 use Prim.Native.Nat.{ℕ, suc, ◌+◌, ◌-◌, ◌*◌, ◌≤◌, ◌<◌}
 use mathlib.Core.Path.{◌≡◌, refl, sym, ap, subst, ◌∙◌}
 use mathlib.Core.Logic.{◌⊎◌, inl, inr, ⊎_elim}
-use mathlib.Core.Bool.{true, false, true≢false, false≢true}
+use mathlib.Core.Bool.{true≢false, false≢true}
 use mathlib.Core.List.{List, Memᴰ as Among}
 use lib.ListN.{length}
 use native.Mathlib.Nat.{suc-mul}
@@ -26,7 +26,7 @@ use Rattle.demands.specs.Demand3.Feeding.{place_of, sent_at}
 use Rattle.demands.proofs.Ranges.{ViewInRanges}
 use Rattle.demands.proofs.Shifted.{cell-on, cell-last, held_on, held-last, unknown-on}
 use Rattle.demands.proofs.InRanges.{on-in-ranges}
-use Rattle.demands.proofs.Knowing.{Brings, packet, copy, brought}
+use Rattle.demands.proofs.Knowing.{Brings, packet, copy}
 use Rattle.demands.proofs.Sent.{Follows, follows-few}
 use Rattle.demands.proofs.Sound.{Marked, Sound}
 

@@ -2,7 +2,7 @@
 -- known number with the sender's packet, up to zeros at the end. Assumes nothing.
 use Prim.Native.Nat.{ℕ, zero, suc, ◌+◌, ◌-◌, ◌<◌}
 use mathlib.Core.Path.{◌≡◌, refl, sym, ap, subst, ◌∙◌}
-use mathlib.Core.Logic.{◌⊎◌, ⊎_elim}
+use mathlib.Core.Logic.{⊎_elim}
 use mathlib.Core.List.{List}
 use lib.ListN.{length, set, length-set}
 use lib.Seq.{get_or-set_same, get_or-set_other}
@@ -20,7 +20,6 @@ use Rattle.sender.specs.declared.Settings.{Settings}
 use Rattle.sender.specs.declared.Settings.TheVariants as settings
 use Rattle.demands.proofs.Growing.{keep_known, keep-unknown}
 use Rattle.demands.proofs.InRanges.{filled}
-use Rattle.demands.proofs.Knowing.{packet}
 use Rattle.demands.proofs.Sent.{InView}
 
 -- ---- what is kept is the sender's

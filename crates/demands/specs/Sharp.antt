@@ -2,13 +2,13 @@
 -- 20.21, 20.22 and 28.8). One fresh session gives up number 0. Another is offered a datagram 0 that the sender of `Example` never sends.
 -- Such results exist, because each call terminates and keeps its promise. Definitions only.
 use Rattle.std.specs.Prelude.{ℕ, ◌<◌, ◌≡◌, true, List, [], ◌∷◌, ◌++◌, length, take}
+use Rattle.session_release.specs.declared.Released.{Released}
 use Rattle.session.specs.Honest.{TrueCells}
 use Rattle.session_held.specs.Table.{lent_by, view_of}
 use Rattle.session_held.specs.Promise.{Fresh}
 use Rattle.session_held.specs.declared.Session.{Session}
 use Rattle.session_calls.specs.Receiver.{OfferOwes, ReleaseOwes}
-use Rattle.session_calls.specs.declared.receiver.AfterOffer.{AfterOffer}
-use Rattle.session_calls.specs.declared.receiver.AfterRelease.{AfterRelease}
+use Rattle.session_calls.specs.declared.Returned.{Returned}
 use Rattle.sender.specs.Honest.{HonestSender}
 use Rattle.image.specs.Image.{LentOctets}
 use Rattle.demands.specs.Common.Calls.{Calls, start, ◌then◌, release, Called, left_by}
@@ -19,7 +19,7 @@ use Rattle.demands.specs.Requests.Handover.{Wrote, ReadAs, StartsAt}
 
 -- ---- what the calls return
 -- a fresh session gives up number 0; its images before and after
-pub record GaveUp (s : Session) (r : AfterRelease) (text later : List ℕ) : Type 0 where
+pub record GaveUp (s : Session) (r : Returned Released) (text later : List ℕ) : Type 0 where
   pub begun : Fresh s
   pub old : List ℕ
   pub new : List ℕ
@@ -32,7 +32,7 @@ pub record GaveUp (s : Session) (r : AfterRelease) (text later : List ℕ) : Typ
 abbrev pub strange : List ℕ
 strange = 0x00 ∷ 0x00 ∷ 0x01 ∷ 0x07 ∷ 0x00 ∷ 0x00 ∷ []
 
-pub record Misled (s : Session) (o : AfterOffer) (text : List ℕ) : Type 0 where
+pub record Misled (s : Session) (o : Returned (Unit {0})) (text : List ℕ) : Type 0 where
   pub begun : Fresh s
   pub call : OfferOwes s strange o
   pub small : LentOctets (lent_by o.session)
@@ -62,7 +62,7 @@ pub record AnotherImage (s t : Session) (text : List ℕ) : Type 0 where
 
 -- ---- two datagrams for a place (rules 15.14 and 28.8): one with the number of place 0, near the base, that is not the sender's makes
 -- something else known
-pub record SecondDatagram (s : Session) (o : AfterOffer) : Type 0 where
+pub record SecondDatagram (s : Session) (o : Returned (Unit {0})) : Type 0 where
   pub honest : HonestSender example_row example_datagrams
   pub fed : Fed example_row example_datagrams s
   pub sent : 0 < length example_row
@@ -71,8 +71,8 @@ pub record SecondDatagram (s : Session) (o : AfterOffer) : Type 0 where
   pub wrong : TrueCells (sent_at example_row (view_of o.session)) (view_of o.session).cells → ⊥
 
 pub record Sharp : Type 0 where
-  pub altered : (s : Session) (r : AfterRelease) (text later : List ℕ) → GaveUp s r text later → AlteredReads s r.session text later
-  pub counted_on : (s : Session) (r : AfterRelease) (text later : List ℕ) (g : GaveUp s r text later)
+  pub altered : (s : Session) (r : Returned Released) (text later : List ℕ) → GaveUp s r text later → AlteredReads s r.session text later
+  pub counted_on : (s : Session) (r : Returned Released) (text later : List ℕ) (g : GaveUp s r text later)
       → CountedOn s r.session (start then release true g.old g.new r.answer) later
-  pub another_image : (s : Session) (o : AfterOffer) (text : List ℕ) → Misled s o text → AnotherImage s o.session text
-  pub second_datagram : (s : Session) (o : AfterOffer) (text : List ℕ) → Misled s o text → SecondDatagram s o
+  pub another_image : (s : Session) (o : Returned (Unit {0})) (text : List ℕ) → Misled s o text → AnotherImage s o.session text
+  pub second_datagram : (s : Session) (o : Returned (Unit {0})) (text : List ℕ) → Misled s o text → SecondDatagram s o

@@ -3,10 +3,11 @@ use crate::names::{NAME, say_data, say_indicator, say_type};
 use crate::text::{Out, say, say_count, say_number, say_octets, say_refusal};
 use crate::wording;
 use crate::wording::say_word;
-use packet::{Ending, Field, Named, PacketKind, PacketRead, PacketReading};
+use length::Refusal;
+use packet::{Ending, Field, Named, PacketKind, PacketRead};
 
 // A value after its word, then the bracket that opens its name.
-fn say_value(out: &mut Out, word: usize, value: usize) {
+fn say_value(out: &mut Out, word: &str, value: usize) {
     say_word(out, word);
     say_number(out, value);
     say_word(out, wording::OPENS);
@@ -33,20 +34,16 @@ fn say_field(out: &mut Out, kind: usize, size: usize) {
     say_octets(out, size);
 }
 
+// The fields come as the reader returns them: an array with room for the most fields, and how many there are.
 fn all_fields(out: &mut Out, fields: [Field; Field::LIMIT], count: usize) {
     say_count(out, count, wording::FIELD);
-    let mut i = 0;
-    while i < Field::LIMIT {
-        let field = fields[i];
-        i += 1;
-        if i <= count {
-            say_field(out, field.kind as usize, field.size);
-        }
+    for field in fields.iter().take(count) {
+        say_field(out, field.kind as usize, field.size);
     }
 }
 
 // The packet, read in this edition.
-pub fn read_by(named: Named, octets: &[u8], ending: Ending) -> PacketRead {
+pub fn read_by(named: Named, octets: &[u8], ending: Ending) -> Result<PacketRead, Refusal> {
     match named {
         Named::Old => packet_pencil::read(0, octets, ending),
         Named::New => packet_pencil::read(1, octets, ending),
@@ -54,16 +51,10 @@ pub fn read_by(named: Named, octets: &[u8], ending: Ending) -> PacketRead {
 }
 
 // For a packet that this edition refuses: writes `word` if the other edition reads it (rule 19.7).
-fn say_other(out: &mut Out, other: Named, octets: &[u8], ending: Ending, word: usize) {
-    let found = read_by(other, octets, ending);
-    let reading = found.reading;
-    match reading {
-        PacketReading::Refused(_) => {}
-        PacketReading::Packet {
-            kind: _,
-            value: _,
-            count: _,
-        } => say_word(out, word),
+fn say_other(out: &mut Out, other: Named, octets: &[u8], ending: Ending, word: &str) {
+    match read_by(other, octets, ending) {
+        Err(_) => {}
+        Ok(_) => say_word(out, word),
     }
 }
 
@@ -77,17 +68,14 @@ fn say_elsewhere(out: &mut Out, named: Named, octets: &[u8], ending: Ending) {
 
 // What the packet reads as. A refusal met while reading is written with its octet, one of the whole packet without (rule 19.6).
 pub fn told(out: &mut Out, named: Named, octets: &[u8], ending: Ending, met: bool) {
-    let found = read_by(named, octets, ending);
-    let fields = found.fields;
-    let reading = found.reading;
-    match reading {
-        PacketReading::Refused(why) => {
+    match read_by(named, octets, ending) {
+        Err(why) => {
             say_refusal(out, why, met);
             say_elsewhere(out, named, octets, ending);
         }
-        PacketReading::Packet { kind, value, count } => {
-            say_kind(out, kind, value as usize);
-            all_fields(out, fields, count);
+        Ok(packet) => {
+            say_kind(out, packet.kind, packet.value as usize);
+            all_fields(out, packet.fields, packet.count);
             say(out, b"\n");
         }
     }

@@ -4,7 +4,6 @@
 #![tactic(auto)]
 
 mod fields;
-mod input;
 mod last;
 mod names;
 mod start;
@@ -13,16 +12,21 @@ mod values;
 mod wording;
 
 use datagram::{Datagram, Packet};
-use input::{KEPT, NEW, REPAIRED, is_new, is_repaired, read_line};
-use length::Written;
 use packet::{Ending, Named};
+use program_input::Lines;
 use std::io;
-use std::io::{BufReader, BufWriter, Stdin, Write};
-use text::{Out, part, row_of_octets, say, say_number, say_octets};
+use std::io::{BufWriter, Write};
+use text::{Out, row_of_octets, say, say_number, say_octets};
 use wording::{end_line, say_word};
 
 // How many octets a line holds at most.
 const OCTETS: usize = Datagram::LIMIT;
+
+// How many characters of a line are kept: more than two words and a line of hexadecimal need.
+const KEPT: usize = 2 * OCTETS + 16;
+
+// The characters of a line that are left out (rule 19.9).
+const BLANKS: &[u8] = b" \t\r";
 
 // The line of a packet with more octets than a packet may have (rule 1.1).
 fn too_long(out: &mut Out, size: usize) {
@@ -48,66 +52,48 @@ fn explain(out: &mut Out, named: Named, octets: &[u8], ending: Ending) {
 fn packet(out: &mut Out, named: Named, digits: &[u8], ending: Ending) {
     let mut octets = [0u8; OCTETS];
     match line_hex::hex_to_octets(digits, &mut octets) {
-        Written::Refused(_) => end_line(out, wording::NO_PACKET),
-        Written::Octets(count) => explain(out, named, part(&octets, 0, count), ending),
+        Err(_) => end_line(out, wording::NO_PACKET),
+        Ok(count) => explain(out, named, &octets[..count], ending),
     }
-}
-
-// What follows a word of this many characters.
-fn behind(line: &[u8], word: usize) -> &[u8] {
-    part(line, word, std::num::wrapping_sub_usize(line.len(), word))
 }
 
 // A line behind the word for its edition, if there is one.
 fn by_edition(out: &mut Out, named: Named, line: &[u8]) {
-    if is_repaired(line) {
-        return packet(out, named, behind(line, REPAIRED), Ending::Repaired);
+    match line.strip_prefix(b"repaired") {
+        Some(digits) => packet(out, named, digits, Ending::Repaired),
+        None => packet(out, named, line, Ending::Whole),
     }
-    packet(out, named, line, Ending::Whole)
 }
 
-// A line of `size` characters: the words new and repaired may come first, in either order (rule 19.4).
-fn explain_line(out: &mut Out, kept: &[u8; KEPT], size: usize) {
-    let line = part(kept, 0, size);
-    if is_new(line) {
-        return by_edition(out, Named::New, behind(line, NEW));
+// The words new and repaired may come first, in either order (rule 19.4).
+fn explain_line(out: &mut Out, line: &[u8]) {
+    if let Some(rest) = line.strip_prefix(b"new") {
+        by_edition(out, Named::New, rest);
+    } else if let Some(digits) = line.strip_prefix(b"repairednew") {
+        packet(out, Named::New, digits, Ending::Repaired);
+    } else {
+        by_edition(out, Named::Old, line);
     }
-    if is_repaired(line) {
-        let rest = behind(line, REPAIRED);
-        if is_new(rest) {
-            return packet(out, Named::New, behind(rest, NEW), Ending::Repaired);
-        }
-    }
-    by_edition(out, Named::Old, line)
-}
-
-// One line of the input; empty ones are skipped (rule 19.9). An empty line is written before each packet but the first.
-fn turn(out: &mut Out, input: &mut BufReader<Stdin>, first: bool, ended: &mut bool) -> bool {
-    let mut line = [0u8; KEPT];
-    let size = read_line(input, &mut line, ended);
-    if size == 0 {
-        return first;
-    }
-    if !first {
-        say(out, b"\n");
-    }
-    explain_line(out, &line, size);
-    let _ = out.flush();
-    false
 }
 
 fn main(rt: HostRuntime) -> io::Result<()> {
-    let mut input = BufReader::new(rt.alloc(), rt.stdin())?;
+    let mut lines = Lines::new(rt.stdin());
     let mut out = BufWriter::new(rt.alloc(), rt.stdout())?;
+    let mut kept = [0u8; KEPT];
     let mut first = true;
-    let mut ended = false;
-    // Nothing proves that the input ends, so the turns are counted down from a number that no run uses up.
-    let mut turns = u64::MAX;
-    while turns > 0 {
-        turns -= 1;
-        first = turn(&mut out, &mut input, first, &mut ended);
-        if ended {
-            return Ok(());
+    // Nothing proves that the input ends, so the lines are counted up to a number that no run reaches.
+    for _ in 0..u64::MAX {
+        let Some(line) = lines.next_line(&mut kept, BLANKS) else {
+            break;
+        };
+        // Empty lines are skipped (rule 19.9). An empty line is written before each packet but the first.
+        if !line.is_empty() {
+            if !first {
+                say(&mut out, b"\n");
+            }
+            first = false;
+            explain_line(&mut out, line);
+            let _ = out.flush();
         }
     }
     Ok(())

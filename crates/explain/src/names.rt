@@ -3,14 +3,14 @@
 use crate::text::{Out, say_line};
 
 // The character that ends a name, and the one that ends its line.
-pub const NAME: u8 = b',';
+pub const NAME: char = ',';
 
-pub const LINE: u8 = b'\n';
+pub const LINE: char = '\n';
 
-pub fn say_indicator(out: &mut Out, value: usize, end: u8) {
+pub fn say_indicator(out: &mut Out, value: usize, end: char) {
     say_line(
         out,
-        b"no-signal, nothing on the line
+        "no-signal, nothing on the line
 cng, calling tone, 1100 Hz
 ced, answering tone, 2100 Hz
 v21-preamble, flags before V.21 frames
@@ -39,10 +39,10 @@ v33-14400-training, training signal of V.33 at 14400 bit/s
     )
 }
 
-pub fn say_data(out: &mut Out, value: usize, end: u8) {
+pub fn say_data(out: &mut Out, value: usize, end: char) {
     say_line(
         out,
-        b"v21, sent by V.21 at 300 bit/s
+        "v21, sent by V.21 at 300 bit/s
 v27-2400, sent by V.27 ter at 2400 bit/s
 v27-4800, sent by V.27 ter at 4800 bit/s
 v29-7200, sent by V.29 at 7200 bit/s
@@ -64,10 +64,10 @@ v33-14400, sent by V.33 at 14400 bit/s
 }
 
 // field-type
-pub fn say_type(out: &mut Out, kind: usize, end: u8) {
+pub fn say_type(out: &mut Out, kind: usize, end: char) {
     say_line(
         out,
-        b"hdlc-data, octets of a frame
+        "hdlc-data, octets of a frame
 hdlc-sig-end, the frames' signal ends
 hdlc-fcs-OK, a good frame ends, more follow
 hdlc-fcs-BAD, a bad frame ends, more follow

@@ -3,11 +3,12 @@ ghost use Rattle.std.specs.Prelude.{◌≤◌, length};
 ghost use Rattle.datagram.specs.Sizes.{packet_limit};
 
 use crate::names::{LINE, say_data, say_indicator, say_type};
-use crate::text::{Bit, On, Out, row, row_of_bit, say, say_refused, stopped};
+use crate::text::{Out, row, row_of_bit, say, say_refused, stopped};
 use crate::wording;
 use crate::wording::end_line;
+use length::Refusal;
 use packet::{Enumerated, Named, PacketKind};
-use packet_pencil::{Number, field_type, t30_data, t30_indicator};
+use packet_pencil::{field_type, t30_data, t30_indicator};
 
 // The ENUMERATED types of Annex A.
 #[derive(Drop)]
@@ -29,7 +30,13 @@ fn values_of(named: Named, which: Which) -> Enumerated {
     }
 }
 
-fn value_at(named: Named, octets: &[u8], item: usize, at: usize, which: Which) -> Number
+fn value_at(
+    named: Named,
+    octets: &[u8],
+    item: usize,
+    at: usize,
+    which: Which,
+) -> Result<(usize, usize), Refusal>
     requires { length octets.now ≤ packet_limit }
 {
     match which {
@@ -55,30 +62,30 @@ fn last_bits(
     at: usize,
     bits: usize,
     which: Which,
-    name: usize,
-    found: Number,
-) -> On
+    name: &str,
+    found: Result<(usize, usize), Refusal>,
+) -> Option<usize>
     requires { length octets.now ≤ packet_limit }
 {
     match found {
-        Number::Refused(why) => stopped(out, octets, at, bits, name, why),
-        Number::Found(value, end) => {
+        Err(why) => stopped(out, octets, at, bits, name, why),
+        Ok((value, end)) => {
             row(out, octets, at, end, name);
             say_value(out, which, value);
-            On::At(end)
+            Some(end)
         }
     }
 }
 
 // A single bit that is refused, behind the front of its line: a bit for extension where no value is added, or a 1 in place of the 0 bit of
 // an added value (rules 7.6 and 7.7).
-fn refused_bit(out: &mut Out, found: Number) -> On {
+fn refused_bit(out: &mut Out, found: Result<(usize, usize), Refusal>) -> Option<usize> {
     match found {
-        Number::Refused(why) => {
+        Err(why) => {
             say_refused(out, why);
-            On::Stopped
+            None
         }
-        Number::Found(_, end) => On::At(end),
+        Ok((_, end)) => Some(end),
     }
 }
 
@@ -89,28 +96,19 @@ fn added(
     item: usize,
     at: usize,
     which: Which,
-    name: usize,
-    found: Number,
-) -> On
+    name: &str,
+    found: Result<(usize, usize), Refusal>,
+) -> Option<usize>
     requires { length octets.now ≤ packet_limit }
 {
     end_line(out, wording::EXTENSION);
-    match row_of_bit(out, octets, item, at, name) {
-        Bit::Stopped => On::Stopped,
-        Bit::Set => refused_bit(out, found),
-        Bit::Clear => {
-            end_line(out, wording::SIX_BITS);
-            last_bits(
-                out,
-                octets,
-                std::num::wrapping_add_usize(at, 1),
-                ADDED_WIDTH,
-                which,
-                name,
-                found,
-            )
-        }
+    let is_one = row_of_bit(out, octets, item, at, name)?;
+    if is_one {
+        return refused_bit(out, found);
     }
+    end_line(out, wording::SIX_BITS);
+    let next = at.wrapping_add(1);
+    last_bits(out, octets, next, ADDED_WIDTH, which, name, found)
 }
 
 // A value behind the bit for extension, which is 0: the bits of a value before the extension mark.
@@ -120,9 +118,9 @@ fn plain(
     at: usize,
     width: usize,
     which: Which,
-    name: usize,
-    found: Number,
-) -> On
+    name: &str,
+    found: Result<(usize, usize), Refusal>,
+) -> Option<usize>
     requires { length octets.now ≤ packet_limit }
 {
     end_line(out, wording::NO_EXTENSION);
@@ -138,8 +136,8 @@ pub fn enumerated(
     item: usize,
     at: usize,
     which: Which,
-    name: usize,
-) -> On
+    name: &str,
+) -> Option<usize>
     requires { length octets.now ≤ packet_limit }
 {
     let values = values_of(named, which);
@@ -147,15 +145,13 @@ pub fn enumerated(
     if !values.extensible {
         return last_bits(out, octets, at, values.width, which, name, found);
     }
-    let next = std::num::wrapping_add_usize(at, 1);
-    match row_of_bit(out, octets, item, at, name) {
-        Bit::Stopped => On::Stopped,
-        Bit::Set => {
-            if values.added == 0 {
-                return refused_bit(out, found);
-            }
-            added(out, octets, item, next, which, name, found)
-        }
-        Bit::Clear => plain(out, octets, next, values.width, which, name, found),
+    let next = at.wrapping_add(1);
+    let is_extended = row_of_bit(out, octets, item, at, name)?;
+    if !is_extended {
+        plain(out, octets, next, values.width, which, name, found)
+    } else if values.added == 0 {
+        refused_bit(out, found)
+    } else {
+        added(out, octets, item, next, which, name, found)
     }
 }

@@ -1,179 +1,107 @@
-// The words that the program writes: the lines of one table, each with its number.
-use crate::text::{Out, say, say_line};
+// The words that the program writes.
+use crate::text::{Out, say};
 
-pub const NO: usize = 0;
+pub const NO: &str = "no";
 
-pub const YES: usize = 1;
+pub const YES: &str = "yes";
 
-pub const OCTET: usize = 2;
+pub const OCTET: &str = " octet";
 
-pub const OCTETS: usize = 3;
+pub const FIELD: &str = " field";
 
-pub const FIELD: usize = 4;
+pub const COLON: &str = ": ";
 
-pub const FIELDS: usize = 5;
+pub const COMMA: &str = ", ";
 
-pub const COLON: usize = 6;
+pub const OPENS: &str = " (";
 
-pub const COMMA: usize = 7;
+pub const CLOSES: &str = "), ";
 
-pub const OPENS: usize = 8;
+pub const AS_OCTETS: &str = "octets            ";
 
-pub const CLOSES: usize = 9;
+pub const ENDS_EARLY: &str = "the octets end too early";
 
-pub const PLACE: usize = 10;
+pub const BAD_FORM: &str = "a length in a form that is not allowed";
 
-pub const BIT: usize = 11;
+pub const OUTSIDE_SIZES: &str = "a length, a count, n or m outside the sizes";
 
-pub const GAP: usize = 12;
+pub const SPARE_BIT: &str = "a spare bit is set";
 
-pub const AS_OCTETS: usize = 13;
+pub const LEFT_OVER: &str = "octets follow the end";
 
-pub const REFUSED: usize = 14;
+pub const NOT_ASSIGNED: &str = "the extension bit, or a value that is not assigned";
 
-pub const AT_OCTET: usize = 15;
+pub const WRONG_DATA: &str = "data where none may be, or none where it must";
 
-pub const ENDS_EARLY: usize = 16;
+pub const IN_README: &str = "README has a table of the refusals";
 
-pub const BAD_FORM: usize = 17;
+pub const IFP_PACKET: &str = "IFPPacket";
 
-pub const OUTSIDE_SIZES: usize = 18;
+pub const AT_MOST: &str = ", at most ";
 
-pub const SPARE_BIT: usize = 19;
+pub const NO_PACKET: &str =
+    "no packet in hexadecimal: two digits an octet, at most 4,800; the words new and repaired may stand first";
 
-pub const LEFT_OVER: usize = 20;
+pub const PRESENT: &str = "data-field present";
 
-pub const NOT_ASSIGNED: usize = 21;
+pub const TYPE_OF_MSG: &str = "Type-of-msg";
 
-pub const WRONG_DATA: usize = 22;
+pub const INDICATOR: &str = "t30-indicator";
 
-pub const IN_README: usize = 23;
+pub const DATA: &str = "data";
 
-pub const IFP_PACKET: usize = 24;
+pub const T30_DATA: &str = "t30-data";
 
-pub const AT_MOST: usize = 25;
+pub const NO_EXTENSION: &str = "no extension";
 
-pub const NO_PACKET: usize = 26;
+pub const EXTENSION: &str = "extension";
 
-pub const PRESENT: usize = 27;
+pub const SIX_BITS: &str = "six bits follow";
 
-pub const TYPE_OF_MSG: usize = 28;
+pub const PADDING: &str = "padding";
 
-pub const INDICATOR: usize = 29;
+pub const ZERO_BITS: &str = "zero bits to an octet edge";
 
-pub const DATA: usize = 30;
+pub const OPTIONAL: &str = "data-field OPTIONAL";
 
-pub const T30_DATA: usize = 31;
+pub const DATA_FIELD: &str = "Data-Field";
 
-pub const NO_EXTENSION: usize = 32;
+pub const DATA_PRESENT: &str = "field-data present";
 
-pub const EXTENSION: usize = 33;
+pub const FIELD_TYPE: &str = "field-type";
 
-pub const SIX_BITS: usize = 34;
+pub const DATA_OPTIONAL: &str = "field-data OPTIONAL";
 
-pub const PADDING: usize = 35;
+pub const LENGTH: &str = "field-data, length";
 
-pub const ZERO_BITS: usize = 36;
+pub const ONE_MORE: &str = ", one more than the bits";
 
-pub const OPTIONAL: usize = 37;
+pub const FIELD_DATA: &str = "field-data";
 
-pub const DATA_FIELD: usize = 38;
+pub const DUE: &str = " due, ";
 
-pub const DATA_PRESENT: usize = 39;
+pub const THERE: &str = " there: ";
 
-pub const FIELD_TYPE: usize = 40;
+pub const AFTER_END: &str = "after the end";
 
-pub const DATA_OPTIONAL: usize = 41;
+pub const ZEROS: &str = "zeros, as a repaired packet may have";
 
-pub const LENGTH: usize = 42;
+pub const READS_AS_INDICATOR: &str = "reads as indicator ";
 
-pub const ONE_MORE: usize = 43;
+pub const READS_AS_DATA: &str = "reads as data ";
 
-pub const FIELD_DATA: usize = 44;
+pub const TYPE: &str = "; type ";
 
-pub const DUE: usize = 45;
+pub const READS_ONLY_IN_OLD: &str = "; it reads only in the old edition (06/98)";
 
-pub const THERE: usize = 46;
+pub const READS_ONLY_IN_NEW: &str = "; it reads only in the new edition (2002)";
 
-pub const AFTER_END: usize = 47;
-
-pub const ZEROS: usize = 48;
-
-pub const READS_AS_INDICATOR: usize = 49;
-
-pub const READS_AS_DATA: usize = 50;
-
-pub const TYPE: usize = 51;
-
-pub const READS_ONLY_IN_OLD: usize = 52;
-
-pub const READS_ONLY_IN_NEW: usize = 53;
-
-pub fn say_word(out: &mut Out, word: usize) {
-    say_line(
-        out,
-        b"no
-yes
- octet
- octets
- field
- fields
-: 
-, 
- (
-), 
-octet 
- bit 
-  
-octets            
-refused with 
- at octet 
-the octets end too early
-a length in a form that is not allowed
-a length, a count, n or m outside the sizes
-a spare bit is set
-octets follow the end
-the extension bit, or a value that is not assigned
-data where none may be, or none where it must
-README has a table of the refusals
-IFPPacket
-, at most 
-no packet in hexadecimal: two digits an octet, at most 4,800; the words new and repaired may stand first
-data-field present
-Type-of-msg
-t30-indicator
-data
-t30-data
-no extension
-extension
-six bits follow
-padding
-zero bits to an octet edge
-data-field OPTIONAL
-Data-Field
-field-data present
-field-type
-field-data OPTIONAL
-field-data, length
-, one more than the bits
-field-data
- due, 
- there: 
-after the end
-zeros, as a repaired packet may have
-reads as indicator 
-reads as data 
-; type 
-; it reads only in the old edition (06/98)
-; it reads only in the new edition (2002)
-",
-        word,
-        b'\n',
-    )
+pub fn say_word(out: &mut Out, word: &str) {
+    say(out, word.as_bytes())
 }
 
 // The last words of a line.
-pub fn end_line(out: &mut Out, word: usize) {
+pub fn end_line(out: &mut Out, word: &str) {
     say_word(out, word);
     say(out, b"\n");
 }

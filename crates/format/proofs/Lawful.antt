@@ -7,6 +7,7 @@ use lib.ListN.{length}
 use native.Mathlib.Nat.{mod-lt}
 use native.Mathlib.Omega.{arith}
 use Rattle.length.specs.Claims.{Octets}
+use Rattle.length.specs.declared.Reason.{Reason}
 use Rattle.format.specs.Spelling.{Letter, bit, octet, spelt, whole, wide}
 use Rattle.format.specs.Reading.{found, check}
 use Rattle.format.specs.Reading as reading
@@ -75,7 +76,7 @@ module _ {A : Type 0} where
         back = λ s i p a q small e. let x = l.back s (p / 8) p a q small e in record { fits = x.fits; spells = x.spells };
       }
 
-  pub lawful-guarded : (n : ℕ) (test : A → Bool) {f : Format A} → Lawful f → Lawful (guarded n test f)
+  pub lawful-guarded : (n : Reason) (test : A → Bool) {f : Format A} → Lawful f → Lawful (guarded n test f)
   lawful-guarded n test {f} l =
       record {
         reads = λ a p fits. record { reads = λ s i st. rw ((l.reads a p fits.0).reads s i st, fits.1) };
@@ -91,7 +92,7 @@ module _ {A : Type 0} where
             back-same {f = guarded n test f} (record { fits = (x.fits, pass.holds); spells = x.spells }) is next;
       }
 
-pub lawful-demand : (n : ℕ) (test : Bool) → Lawful (demand n test)
+pub lawful-demand : (n : Reason) (test : Bool) → Lawful (demand n test)
 lawful-demand n test =
     record {
       reads = λ u p fits. rw fits reads-give;

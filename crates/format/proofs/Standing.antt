@@ -11,6 +11,7 @@ use native.Mathlib.Nat.{pow-suc, mul_assoc, mul_comm, mod-lt, mul-add-mod_self_r
 use native.Mathlib.Omega.{arith}
 use borrow.Author.Tests.{lt-ltb, ltb-true}
 use Rattle.length.specs.Refusals.{ends_early}
+use Rattle.length.specs.declared.Reason.{Reason}
 use Rattle.format.specs.Spelling.{Letter, bit, octet, spelt, whole, wide, gap}
 use Rattle.format.specs.Reading.{Finding, found, stopped, and_then, Reader, ◌>>=◌, give, stop, check, bit_at}
 use Rattle.format.specs.Reading as reading
@@ -164,7 +165,7 @@ pub record Passed (test : Bool) (p q : ℕ) : Type 0 where
   pub holds : test ≡ true
   pub stays : q ≡ p
 
-pub passed : (n : ℕ) (test : Bool) (s : List ℕ) (i p : ℕ) (u : Unit {0}) (q : ℕ) → check n test s i p ≡ found u q → Passed test p q
+pub passed : (n : Reason) (test : Bool) (s : List ℕ) (i p : ℕ) (u : Unit {0}) (q : ℕ) → check n test s i p ≡ found u q → Passed test p q
 passed n true s i p u q e = record { holds = refl; stays = cc }
 passed n false s i p u q e = let z : ◌≡◌ {A = ℕ} 0 1 = cc in absurd (omega arith)
 

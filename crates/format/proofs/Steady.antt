@@ -9,6 +9,7 @@ use lib.Dec.{ltb, eqb}
 use native.Mathlib.Omega.{arith}
 use borrow.Author.Tests.{lt-ltb, ltb-true}
 use Rattle.length.specs.Refusals.{ends_early, spare_bit}
+use Rattle.length.specs.declared.Reason.{Reason}
 use Rattle.format.specs.Spelling.{gap}
 use Rattle.format.specs.Reading.{found, Reader, give, ◌>>=◌, check, bit_at}
 use Rattle.format.specs.Reading as reading
@@ -43,7 +44,7 @@ keeps-give a =
       longer = λ s more i p b q from e. e;
     }
 
-keeps-check : (n : ℕ) (test : Bool) → Keeps (check n test)
+keeps-check : (n : Reason) (test : Bool) → Keeps (check n test)
 keeps-check n true = keeps-give tt
 keeps-check n false =
     record {
@@ -105,7 +106,7 @@ module _ {A : Type 0} where
         longer = λ s more i p a q from e. x.longer s more (p / 8) p a q from e;
       }
 
-  pub steady-guarded : (n : ℕ) (test : A → Bool) {f : Format A} → Steady f → Steady (guarded n test f)
+  pub steady-guarded : (n : Reason) (test : A → Bool) {f : Format A} → Steady f → Steady (guarded n test f)
   steady-guarded n test {f} x =
       steady (keeps-bind f.read _ (keeps x) (λ a. keeps-bind (check n (test a)) _ (keeps-check n (test a)) (λ _. keeps-give a)))
 
@@ -124,7 +125,7 @@ module _ {A : Type 0} where
   pub steady-sequence-of : (n : ℕ) {f : Format A} → Steady f → Steady (sequence_of n f)
   steady-sequence-of n x = steady (keeps-sequence n x)
 
-pub steady-demand : (n : ℕ) (test : Bool) → Steady (demand n test)
+pub steady-demand : (n : Reason) (test : Bool) → Steady (demand n test)
 steady-demand n test = steady (keeps-check n test)
 
 module _ {A B : Type 0} where

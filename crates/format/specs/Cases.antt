@@ -2,6 +2,7 @@
 -- octet at which its item begins (rule 2.27). Definitions only.
 use Rattle.std.specs.Prelude.{ℕ, ◌≡◌, true, false, List, [], ◌∷◌, map, ltb}
 use Rattle.length.specs.Answers.{done, refuse_at}
+use Rattle.length.specs.Refusals.{numbered}
 use Rattle.format.specs.Spelling.{bit, octet, spelt, whole, wide, gap, packed, in_octets}
 use Rattle.format.specs.Reading.{Finding, found, stopped, bit_at, check}
 use Rattle.format.specs.Reading as reading
@@ -12,7 +13,7 @@ use Rattle.format.specs.Waiting.{waiting, none_wait, Waits, joined, full_octets,
 
 -- refused with this number, at this octet
 abbrev pub stopped_at : {A : Type 0} → ℕ → ℕ → Finding A
-stopped_at place number = stopped (record { number = number; place = place })
+stopped_at place number = stopped (record { reason = numbered number; place = place })
 
 pub record ReadingCases : Type 0 where
   -- the highest bit of an octet comes first (rule 5.1)
@@ -41,10 +42,10 @@ pub record ReadingCases : Type 0 where
   pub last_set : reading.align (0x00 ∷ 0xE1 ∷ []) 0 11 ≡ stopped_at 1 5
   pub set-later : reading.align (0x01 ∷ []) 7 3 ≡ stopped_at 0 5
   -- a test that fails is refused at the item (rule 2.27), and an item begins in the octet of its first bit (rule 5.7)
-  pub passes : check 12 true [] 3 27 ≡ found tt 27
-  pub fails : check 12 false [] 3 27 ≡ stopped_at 3 12
-  pub fails-at-1 : reading.item (check 12 false) [] 0 14 ≡ stopped_at 1 12
-  pub fails-at-2 : reading.item (check 12 false) [] 0 17 ≡ stopped_at 2 12
+  pub passes : check (numbered 12) true [] 3 27 ≡ found tt 27
+  pub fails : check (numbered 12) false [] 3 27 ≡ stopped_at 3 12
+  pub fails-at-1 : reading.item (check (numbered 12) false) [] 0 14 ≡ stopped_at 1 12
+  pub fails-at-2 : reading.item (check (numbered 12) false) [] 0 17 ≡ stopped_at 2 12
   -- whole octets, from an octet edge on; a refusal counts its place from the first octet (rules 2.28 and 2.31)
   pub two : reading.octetwise (octets_front 2) (0x00 ∷ 0xAA ∷ 0xBB ∷ 0xCC ∷ []) 0 8 ≡ found (0xAA ∷ 0xBB ∷ []) 24
   pub two-missing : reading.octetwise (octets_front 2) (0x00 ∷ 0x00 ∷ 0xAA ∷ []) 0 16 ≡ stopped_at 2 1
@@ -105,11 +106,11 @@ pub record FormatCases : Type 0 where
   pub known-7 : (known {A = ℕ} 7).read (0xFF ∷ []) 0 3 ≡ found 7 3
   pub known-unspelt : (known {A = ℕ} 7).spelling 7 3 ≡ []
   -- a test that fails is refused with its number, at the item that it is in (rule 2.27); the item is the octet of its first bit (rule 5.7)
-  pub three : (guarded 12 (λ v. ltb v 4) (bits 3)).read (0x07 ∷ []) 0 3 ≡ found 1 6
-  pub seven : (item (guarded 12 (λ v. ltb v 4) (bits 3))).read (0x00 ∷ 0x07 ∷ []) 0 13 ≡ stopped_at 1 12
-  pub demanded : (demand 14 true).read [] 2 20 ≡ found tt 20
-  pub not-demanded : (demand 14 false).read [] 2 20 ≡ stopped_at 2 14
-  pub demand-unspelt : (demand 14 true).spelling tt 0 ≡ []
+  pub three : (guarded (numbered 12) (λ v. ltb v 4) (bits 3)).read (0x07 ∷ []) 0 3 ≡ found 1 6
+  pub seven : (item (guarded (numbered 12) (λ v. ltb v 4) (bits 3))).read (0x00 ∷ 0x07 ∷ []) 0 13 ≡ stopped_at 1 12
+  pub demanded : (demand (numbered 14) true).read [] 2 20 ≡ found tt 20
+  pub not-demanded : (demand (numbered 14) false).read [] 2 20 ≡ stopped_at 2 14
+  pub demand-unspelt : (demand (numbered 14) true).spelling tt 0 ≡ []
   -- one after the other, the second from where the first ends (rule 5.6)
   pub then : (bits 3 ⊳ λ n. bits n).read (0x58 ∷ []) 0 0 ≡ found (2, 3) 5
   pub then-spelt : (bits 3 ⊳ λ n. bits n).spelling (2, 3) 0 ≡ bit 0 ∷ bit 1 ∷ bit 0 ∷ bit 1 ∷ bit 1 ∷ []
@@ -133,7 +134,7 @@ pub record FitsCases : Type 0 where
   pub number-258 : (two_octets 258).fits 258 0
   pub number-259 : (two_octets 258).fits 259 0 → ⊥
   pub count-16 : (length_rule 1 16).fits 16 0
-  pub tested : (guarded 12 (λ v. ltb v 4) (bits 3)).fits 3 0
+  pub tested : (guarded (numbered 12) (λ v. ltb v 4) (bits 3)).fits 3 0
   pub pairs : (sequence_of 2 (bits 2)).fits (1 ∷ 2 ∷ []) 0
 
 pub record PlacesCases : Type 0 where
@@ -151,10 +152,10 @@ pub record PlacesCases : Type 0 where
   pub padded : edge_at (0x00 ∷ 0xE0 ∷ []) 11 ≡ done 2
   pub at_edge : edge_at (0xFF ∷ 0xFF ∷ []) 8 ≡ done 1
   -- a bit set there is 5, at the octet of the padding (rules 5.4 and 5.5)
-  pub first-set : edge_at (0x00 ∷ 0xF0 ∷ []) 11 ≡ refuse_at 1 5
-  pub last_set : edge_at (0x00 ∷ 0xE1 ∷ []) 11 ≡ refuse_at 1 5
-  pub set-at-1 : edge_at (0x00 ∷ 0x03 ∷ 0x00 ∷ []) 14 ≡ refuse_at 1 5
-  pub set-at-2 : edge_at (0x00 ∷ 0x00 ∷ 0x81 ∷ []) 17 ≡ refuse_at 2 5
+  pub first-set : edge_at (0x00 ∷ 0xF0 ∷ []) 11 ≡ refuse_at 1 (numbered 5)
+  pub last_set : edge_at (0x00 ∷ 0xE1 ∷ []) 11 ≡ refuse_at 1 (numbered 5)
+  pub set-at-1 : edge_at (0x00 ∷ 0x03 ∷ 0x00 ∷ []) 14 ≡ refuse_at 1 (numbered 5)
+  pub set-at-2 : edge_at (0x00 ∷ 0x00 ∷ 0x81 ∷ []) 17 ≡ refuse_at 2 (numbered 5)
   pub nothing : edge_at [] 3 ≡ done 1
 
 pub record WaitingCases : Type 0 where

@@ -4,6 +4,7 @@ use Rattle.std.specs.Prelude.{ℕ, zero, ◌+◌, ◌*◌, ◌/◌, ◌%◌, ◌
 use Rattle.length.specs.Refusals.{refusal, ends_early, outside_sizes}
 use Rattle.length.specs.Answers.{Answer, done, refused, LengthAnswer}
 use Rattle.length.specs.Length.{within, length_within, length_octets, length_limit}
+use Rattle.length.specs.declared.Reason.{Reason}
 use Rattle.format.specs.Spelling.{Letter, bit, spelt, whole, wide, gap}
 use Rattle.format.specs.Reading.{Finding, found, stopped, Reader, give, ◌>>=◌, check}
 use Rattle.format.specs.Reading as reading
@@ -80,20 +81,20 @@ module _ {A : Type 0} where
   abbrev pub item : Format A → Format A
   item f = record { read = reading.item f.read; spelling = f.spelling; fits = f.fits }
 
-  -- what passes a test; otherwise the refusal n
-  abbrev pub guarded : ℕ → (A → Bool) → Format A → Format A
-  guarded n test f = record {
+  -- what passes a test; otherwise it is refused for this reason
+  abbrev pub guarded : Reason → (A → Bool) → Format A → Format A
+  guarded why test f = record {
     read = do
       a ← f.read
-      _ ← check n (test a)
+      _ ← check why (test a)
       give a;
     spelling = f.spelling;
     fits = λ a p. (f.fits a p) × (test a ≡ true);
   }
 
--- goes on if a test holds; otherwise the refusal n
-abbrev pub demand : ℕ → Bool → Format (Unit {0})
-demand n test = record { read = check n test; spelling = λ u p. []; fits = λ u p. test ≡ true }
+-- goes on if a test holds; otherwise it is refused for this reason
+abbrev pub demand : Reason → Bool → Format (Unit {0})
+demand why test = record { read = check why test; spelling = λ u p. []; fits = λ u p. test ≡ true }
 
 module _ {A B : Type 0} where
   -- one after the other

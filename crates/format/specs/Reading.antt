@@ -3,6 +3,7 @@
 use Rattle.std.specs.Prelude.{ℕ, zero, suc, ◌+◌, ◌-◌, ◌*◌, ◌/◌, ◌%◌, ◌^◌, Bool, cond, List, [], ◌∷◌, length, get_or, drop, ltb, eqb}
 use Rattle.length.specs.Refusals.{refusal_at, further, ends_early, spare_bit}
 use Rattle.length.specs.declared.Refusal.{Refusal}
+use Rattle.length.specs.declared.Reason.{Reason}
 use Rattle.format.specs.Spelling.{gap}
 
 -- what was found, and the place after it; or why it is refused
@@ -24,13 +25,13 @@ give a s i p = found a p
 abbrev pub ◌>>=◌ : {A B : Type 0} → Reader A → (A → Reader B) → Reader B
 ◌>>=◌ r next s i p = and_then (r s i p) (λ a q. next a s i q)
 
--- refused with the number n, at the octet at which the present item begins (rules 2.27 and 5.7)
-abbrev pub stop : {A : Type 0} → ℕ → Reader A
-stop n s i p = stopped (refusal_at i n)
+-- refused for this reason, at the octet at which the present item begins (rules 2.27 and 5.7)
+abbrev pub stop : {A : Type 0} → Reason → Reader A
+stop why s i p = stopped (refusal_at i why)
 
--- goes on if a test holds; otherwise the refusal n
-abbrev pub check : ℕ → Bool → Reader (Unit {0})
-check n test = cond test (give tt) (stop n)
+-- goes on if a test holds; otherwise it is refused for this reason
+abbrev pub check : Reason → Bool → Reader (Unit {0})
+check why test = cond test (give tt) (stop why)
 
 -- an item begins here, in the octet of its first bit (rule 5.7)
 abbrev pub item : {A : Type 0} → Reader A → Reader A

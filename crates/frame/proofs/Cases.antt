@@ -7,6 +7,7 @@ use lib.ListN.{length, replicate}
 use native.Mathlib.Omega.{arith}
 use Rattle.length.specs.Answers.{refuse}
 use Rattle.length.specs.Tables.{unless}
+use Rattle.length.specs.Refusals.{outside_ranges}
 use Rattle.octets.specs.Place.{all_below}
 use Rattle.frame.specs.Frame.{frame_limit, tainted, opened, with_added, good_frame, on_open, field_step, would_pass}
 use Rattle.frame.specs.Joiner.{in_storage, held_as, joining_of, zeros_after, ranges_of, joiner_in_ranges}
@@ -51,11 +52,11 @@ line-cases =
     }
 
 -- ---- the cases: what the calls keep is within its ranges, by the law; the ranges themselves are computed
-past-over : loss_answer saved_over ≡ refuse 17
+past-over : loss_answer saved_over ≡ refuse outside_ranges
 unfolding loss_answer ranges_of unless
 past-over = refl
 
-past-tainted : loss_answer saved_tainted ≡ refuse 17
+past-tainted : loss_answer saved_tainted ≡ refuse outside_ranges
 unfolding loss_answer ranges_of unless
 past-tainted = refl
 

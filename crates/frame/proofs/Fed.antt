@@ -3,6 +3,7 @@ use Prim.Native.Nat.{ℕ, ◌+◌, ◌≤◌, ◌<◌}
 use mathlib.Core.Path.{◌≡◌, refl, sym, ap, subst, ◌∙◌}
 use mathlib.Core.Bool.{Bool, true, false, not, cond, ◌&&◌, ◌||◌, false≢true}
 use mathlib.Core.List.{List, [], ◌∷◌, ◌++◌}
+use Rattle.std.proofs.Common.{Result, Err}
 use mathlib.Core.Logic.{⊎_elim}
 use mathlib.Core.Option.{Option, none, some}
 use lib.ListN.{length, take, drop, length-append}
@@ -14,6 +15,7 @@ use Rattle.octets.proofs.Laws.{true-or-false, and_left, and_right}
 use Rattle.length.specs.Refusals.{refusal, not_assigned, no_room, wrong_data, outside_ranges, frame_too_long}
 use Rattle.length.specs.Answers.{Answer, done, refused, refuse, mapped, over}
 use Rattle.length.specs.Tables.{when, unless}
+use Rattle.length.specs.declared.Refusal.{Refusal}
 use Rattle.packet.specs.Packet.{types_limit, right_data}
 use Rattle.frame.specs.Frame.{joiner_edition, frame_limit, Joining, tainted, opened, Frame, good, bad, adds, hands_good, hands_bad}
 use Rattle.frame.specs.Frame.{ends_frame, Step, passes, with_added, good_frame, on_open, field_step, would_pass}
@@ -25,7 +27,6 @@ use Rattle.frame.specs.Claims.{HandedOut, Never17, frames_in}
 use Rattle.frame.specs.declared.Joiner.{Joiner}
 use Rattle.frame.specs.declared.Joined.{Joined}
 use Rattle.frame.specs.declared.Handed.{Handed}
-use Rattle.frame.specs.declared.Handed.TheVariants as handed
 use Rattle.frame.proofs.Laws.{Fitting, held-ranges, held-joining}
 use Rattle.frame.proofs.Outcome.{handed_named, answer-is}
 
@@ -107,14 +108,14 @@ answer-held room f v fits right wide =
     given false = refl
 
 -- an answer that is done, and the frame at the front of the buffer
-frames-done : (handed : Option Frame) (old new : List ℕ) (h : Handed) → handed_outcome h ≡ told_in (done handed)
+frames-done : (handed : Option Frame) (old new : List ℕ) (h : Result Handed Refusal) → handed_outcome h ≡ told_in (done handed)
     → new ≡ over (mapped frame_octets (done handed)) old → frames_in h new ≡ list_of handed
-frames-done none old new h e l = ap (λ (k : Handed). frames_in k new) (answer-is h e)
+frames-done none old new h e l = ap (λ (k : Result Handed Refusal). frames_in k new) (answer-is h e)
 frames-done (some (good frame)) old new h e l =
-    ap (λ (k : Handed). frames_in k new) (answer-is h e)
+    ap (λ (k : Result Handed Refusal). frames_in k new) (answer-is h e)
     ∙ ap (λ (o : List ℕ). good o ∷ []) (ap (take (length frame)) l ∙ take-append_seam frame (drop (length frame) old))
 frames-done (some (bad frame)) old new h e l =
-    ap (λ (k : Handed). frames_in k new) (answer-is h e)
+    ap (λ (k : Result Handed Refusal). frames_in k new) (answer-is h e)
     ∙ ap (λ (o : List ℕ). bad o ∷ []) (ap (take (length frame)) l ∙ take-append_seam frame (drop (length frame) old))
 
 -- what a field does
@@ -131,10 +132,10 @@ fed-field v {f} {old} {new} {r} fits right wide m =
     (λ long.
     let told : field_answer (length old) f.type f.octets (held_as v) ≡ refuse frame_too_long =
     answer-held (length old) f v fits right wide ∙ rw long in
-    let is : r.answer ≡ handed.Refused (refusal frame_too_long) = answer-is r.answer (m.answer ∙ ap told_in told) in
+    let is : r.answer ≡ Err (refusal frame_too_long) = answer-is r.answer (m.answer ∙ ap told_in told) in
     record {
       joiner = m.state ∙ rw (told, held-joining v);
-      frames = ap (λ (h : Handed). frames_in h new) is ∙ ap list_of (sym (long-none f.type f.octets v long));
+      frames = ap (λ (h : Result Handed Refusal). frames_in h new) is ∙ ap list_of (sym (long-none f.type f.octets v long));
     })
     (λ short.
     let told : field_answer (length old) f.type f.octets (held_as v) ≡ done (field_step f.type f.octets v).handed =

@@ -4,15 +4,18 @@ use Prim.Native.Nat.{ℕ, ◌≤◌}
 use mathlib.Core.Path.{◌≡◌, refl, sym, ap, ap₂, subst, ◌∙◌}
 use mathlib.Core.Bool.{Bool, true, false, not, cond, ◌&&◌}
 use mathlib.Core.List.{List, [], ◌∷◌, ◌++◌}
+use Rattle.std.proofs.Common.{Result, Err}
 use mathlib.Core.Option.{Option, none}
 use lib.ListN.{length}
 use lib.Dec.{leb, ltb, eqb}
 use native.Mathlib.Omega.{arith}
 use borrow.Author.Tests.{le-ltb, lt-ltb, leb-true, leb-false}
 use Rattle.octets.proofs.Laws.{and_left, and_right}
-use Rattle.length.specs.Refusals.{refusal, not_assigned, no_room, wrong_data, outside_ranges, frame_too_long}
+use Rattle.length.specs.Refusals.{refusal, not_assigned, no_room, wrong_data, outside_ranges, frame_too_long, number_of}
 use Rattle.length.specs.Answers.{Answer, done, refused, refuse}
 use Rattle.length.specs.Tables.{when, unless}
+use Rattle.length.specs.declared.Refusal.{Refusal}
+use Rattle.length.specs.declared.Reason.{Reason}
 use Rattle.packet.specs.Packet.{types_limit, right_data}
 use Rattle.frame.specs.Frame.{joiner_edition, frame_limit, Joining, tainted, fresh_joining, Frame, Step, field_step, would_pass}
 use Rattle.frame.specs.Joiner.{held_as, joining_of, joiner_in_ranges}
@@ -23,7 +26,6 @@ use Rattle.frame.specs.Claims.{HandedOut, Never17, frames_in, HandsOut, fed_noth
 use Rattle.frame.specs.declared.Joiner.{Joiner}
 use Rattle.frame.specs.declared.Joined.{Joined}
 use Rattle.frame.specs.declared.Handed.{Handed}
-use Rattle.frame.specs.declared.Handed.TheVariants as handed
 use Rattle.frame.proofs.Laws.{Fitting, held-ranges, held-joining}
 use Rattle.frame.proofs.Outcome.{answer-is}
 use Rattle.frame.proofs.Fed.{step_fits, FedBy, fed-field, fed-loss}
@@ -60,7 +62,7 @@ holds-ranges h = ap joiner_in_ranges h.held ∙ held-ranges h.kept h.fits
 -- ---- 17 is not given within the ranges
 abbrev number_in : Answer Told → ℕ
 number_in (done told) = 0
-number_in (refused why) = why.number
+number_in (refused why) = number_of why.reason
 
 others : (a b c d : Bool) (h : Option Frame)
     → 17 ≡ number_in (told_in (unless (when a not_assigned ∷ when b wrong_data ∷ when c frame_too_long ∷ when d no_room ∷ []) h)) → ⊥
@@ -72,7 +74,7 @@ others false false false true h e = omega arith
 others false false false false h e = omega arith
 
 field-never : {j : Joiner} {type : ℕ} {octets old new : List ℕ} {r : Joined} → joiner_in_ranges j ≡ true → FieldOwes j type octets old new r
-    → r.answer ≡ handed.Refused (refusal outside_ranges) → ⊥
+    → r.answer ≡ Err (refusal outside_ranges) → ⊥
 unfolding field_answer unless
 field-never {j} {type} {octets} {old} {new} {r} inside m is =
     others (ltb (types_limit joiner_edition) type) (not (right_data joiner_edition type (ltb 0 (length octets))))
@@ -81,7 +83,7 @@ field-never {j} {type} {octets} {old} {new} {r} inside m is =
     (field_step type octets (joining_of j)).handed
     (rw inside at (ap number_in (sym (ap handed_outcome is) ∙ m.answer)))
 
-loss-never : {j : Joiner} {r : Joined} → joiner_in_ranges j ≡ true → LossOwes j r → r.answer ≡ handed.Refused (refusal outside_ranges) → ⊥
+loss-never : {j : Joiner} {r : Joined} → joiner_in_ranges j ≡ true → LossOwes j r → r.answer ≡ Err (refusal outside_ranges) → ⊥
 unfolding loss_answer unless
 loss-never {j} {r} inside m is =
     let e : ◌≡◌ {A = ℕ} 17 0 = rw inside at (ap number_in (sym (ap handed_outcome is) ∙ m.answer)) in
@@ -98,11 +100,11 @@ never-17 =
 -- ---- any events
 -- a field that a packet may not hold
 wrong_answer : (room : ℕ) (f : Field) (v : Joining) → Fitting v → right_field f ≡ false
-    → (number : ℕ) × (field_answer room f.type f.octets (held_as v) ≡ refuse number) × (eqb number frame_too_long ≡ false)
+    → (why : Reason) × (field_answer room f.type f.octets (held_as v) ≡ refuse why) × (eqb (number_of why) (number_of frame_too_long) ≡ false)
 unfolding field_answer unless
 wrong_answer room f v fits wrong = by (leb f.type (types_limit joiner_edition)) refl where
   by : (b : Bool) → leb f.type (types_limit joiner_edition) ≡ b
-      → (number : ℕ) × (field_answer room f.type f.octets (held_as v) ≡ refuse number) × (eqb number frame_too_long ≡ false)
+      → (why : Reason) × (field_answer room f.type f.octets (held_as v) ≡ refuse why) × (eqb (number_of why) (number_of frame_too_long) ≡ false)
   by false e =
       let over = leb-false f.type (types_limit joiner_edition) e in
       (not_assigned, rw (held-ranges v fits, lt-ltb (types_limit joiner_edition) f.type over), refl)
@@ -118,8 +120,8 @@ wrong-field v {f} {old} {new} {r} fits wrong m =
     let x = wrong_answer (length old) f v fits wrong in
     let told = x.1 in
     let other = x.2 in
-    let is : r.answer ≡ handed.Refused (refusal x.0) = answer-is r.answer (m.answer ∙ ap told_in told) in
-    record { joiner = m.state ∙ rw (told, other); frames = ap (λ (h : Handed). frames_in h new) is }
+    let is : r.answer ≡ Err (refusal x.0) = answer-is r.answer (m.answer ∙ ap told_in told) in
+    record { joiner = m.state ∙ rw (told, other); frames = ap (λ (h : Result Handed Refusal). frames_in h new) is }
 
 -- what a call for a field does, and what is kept fits
 record FedOn (f : Field) (v : Joining) (new : List ℕ) (r : Joined) : Type 0 where

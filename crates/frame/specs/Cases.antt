@@ -4,6 +4,8 @@ use Rattle.std.specs.Prelude.{ℕ, ◌≡◌, Bool, true, false, List, [], ◌�
 use Rattle.std.proofs.Math.Option.{Option, none, some}
 use Rattle.length.specs.Answers.{done, refuse}
 use Rattle.length.specs.Tables.{refusal_in}
+use Rattle.length.specs.Refusals.{numbered}
+use Rattle.length.specs.declared.Reason.{Reason}
 use Rattle.frame.specs.Frame.{frame_limit, Joining, tainted, opened, Frame, good, bad, Step, field_step}
 use Rattle.frame.specs.Joiner.{held_as}
 use Rattle.frame.specs.Promise.{field_answer, joiner_after, loss_answer, joiner_after_loss, FreshMade}
@@ -35,7 +37,7 @@ abbrev pub step_to : Option Frame → Joining → Step
 step_to handed after = record { handed = handed; after = after }
 
 -- the refusal of a field, if it is refused
-abbrev pub refusal_for : List ℕ → ℕ → Option ℕ
+abbrev pub refusal_for : List ℕ → ℕ → Option Reason
 refusal_for octets type = refusal_in (field_answer 300 type octets (held_as tainted))
 
 pub record TypeCases : Type 0 where
@@ -62,9 +64,9 @@ pub record TypeCases : Type 0 where
       ∷ replicate 6 (step_to none tainted)
   -- rule 16.11: which types are 14 without data, and which with data
   pub bare : map (refusal_for []) types
-      ≡ some 14 ∷ none ∷ none ∷ none ∷ none ∷ none ∷ some 14 ∷ none ∷ some 14 ∷ some 14 ∷ some 14 ∷ none ∷ []
+      ≡ some (numbered 14) ∷ none ∷ none ∷ none ∷ none ∷ none ∷ some (numbered 14) ∷ none ∷ some (numbered 14) ∷ some (numbered 14) ∷ some (numbered 14) ∷ none ∷ []
   pub with-data : map (refusal_for (0x11 ∷ [])) types
-      ≡ none ∷ some 14 ∷ some 14 ∷ some 14 ∷ some 14 ∷ some 14 ∷ none ∷ none ∷ none ∷ none ∷ none ∷ none ∷ []
+      ≡ none ∷ some (numbered 14) ∷ some (numbered 14) ∷ some (numbered 14) ∷ some (numbered 14) ∷ some (numbered 14) ∷ none ∷ none ∷ none ∷ none ∷ none ∷ none ∷ []
 
 -- ---- a line of four packets: the frame `AA`, the bad frame `BB`, the beginning of `CC DD`, and its end with the bad frame `EE`
 abbrev pub field : ℕ → List ℕ → Field
@@ -140,7 +142,7 @@ pub record JoinerCases : Type 0 where
   pub drop-8 : joiner_after 0 8 (0x11 ∷ []) (with (0xFF ∷ [])) ≡ with []
   pub drop-11 : joiner_after 0 11 (0x11 ∷ []) (with (0xFF ∷ [])) ≡ with []
   pub drop-11-bare : field_answer 0 11 [] (with (0xFF ∷ [])) ≡ done none
-  pub bare-10 : field_answer 0 10 [] (with []) ≡ refuse 14
+  pub bare-10 : field_answer 0 10 [] (with []) ≡ refuse (numbered 14)
   -- rules 16.8 and 16.10: a lost number taints up to and including the next field of types 1 to 5; types 6 and 11 end no taint
   pub loss-taints : joiner_after_loss (with (0xFF ∷ [])) ≡ held_as tainted
   pub tainted-quiet : field_answer 300 2 [] (held_as tainted) ≡ done none
@@ -149,25 +151,25 @@ pub record JoinerCases : Type 0 where
   pub tainted-goes-on-11 : joiner_after 0 11 [] (held_as tainted) ≡ held_as tainted
   -- rules 16.9, 16.11 and 26.30: while tainted nothing is kept and 18 is not given; 12 and 14 are given, and end no taint
   pub tainted-adds : field_answer 0 0 (0x11 ∷ full_frame) (held_as tainted) ≡ done none
-  pub tainted-14 : field_answer 0 0 [] (held_as tainted) ≡ refuse 14
+  pub tainted-14 : field_answer 0 0 [] (held_as tainted) ≡ refuse (numbered 14)
   pub tainted-12 : joiner_after 0 12 [] (held_as tainted) ≡ held_as tainted
   -- rules 16.12 and 16.13: a field may have more data than a packet; a frame that would pass 300 octets is 18, and taints the joiner
   pub adds-over-packet : joiner_after 0 0 (replicate 257 0x55) (with []) ≡ with (replicate 257 0x55)
   pub adds-last : field_answer 0 0 full_frame (with []) ≡ done none
-  pub adds-over : field_answer 0 0 (0x11 ∷ []) (with full_frame) ≡ refuse 18
+  pub adds-over : field_answer 0 0 (0x11 ∷ []) (with full_frame) ≡ refuse (numbered 18)
   -- rule 26.31: 257 octets, then 44
-  pub adds-257-44 : field_answer 0 0 (replicate 44 0x55) (with (replicate 257 0x55)) ≡ refuse 18
+  pub adds-257-44 : field_answer 0 0 (replicate 44 0x55) (with (replicate 257 0x55)) ≡ refuse (numbered 18)
   pub too-long-taints : joiner_after 0 0 (0x11 ∷ []) (with full_frame) ≡ held_as tainted
   -- rule 16.15: 13 leaves the frame open
-  pub no_room : field_answer 1 2 [] (with (0xFF ∷ 0x13 ∷ [])) ≡ refuse 13
+  pub no_room : field_answer 1 2 [] (with (0xFF ∷ 0x13 ∷ [])) ≡ refuse (numbered 13)
   pub no-room-stays : joiner_after 1 2 [] (with (0xFF ∷ 0x13 ∷ [])) ≡ with (0xFF ∷ 0x13 ∷ [])
   -- rules 16.14 and 16.16: over 300 octets, an octet while tainted, or an octet past the length that is not zero, are 17, which comes first
-  pub octets-over : loss_answer saved_over ≡ refuse 17
-  pub octets-tainted : loss_answer saved_tainted ≡ refuse 17
-  pub octets-past : loss_answer saved_past ≡ refuse 17
-  pub ranges-first : field_answer 0 12 [] saved_past ≡ refuse 17
+  pub octets-over : loss_answer saved_over ≡ refuse (numbered 17)
+  pub octets-tainted : loss_answer saved_tainted ≡ refuse (numbered 17)
+  pub octets-past : loss_answer saved_past ≡ refuse (numbered 17)
+  pub ranges-first : field_answer 0 12 [] saved_past ≡ refuse (numbered 17)
   -- rule 16.11: a type over 11 is 12
-  pub type-over : field_answer 0 12 [] (with []) ≡ refuse 12
+  pub type-over : field_answer 0 12 [] (with []) ≡ refuse (numbered 12)
 
 pub record Cases : Type 0 where
   pub types : TypeCases

@@ -1,7 +1,8 @@
 -- The claims of this crate: one outcome, no 17 for the library's own joiners (rule 16.18), and the sender's frames on a line with losses
 -- (rules 16.17, 16.19 and 17.4). Definitions only.
-use Rattle.std.specs.Prelude.{ℕ, ◌≤◌, ◌≡◌, true, false, List, [], ◌∷◌, ◌++◌, length, take}
+use Rattle.std.specs.Prelude.{ℕ, ◌≤◌, ◌≡◌, true, false, List, [], ◌∷◌, ◌++◌, Result, Ok, Err, length, take}
 use Rattle.length.specs.Refusals.{refusal, outside_ranges}
+use Rattle.length.specs.declared.Refusal.{Refusal}
 use Rattle.frame.specs.Frame.{frame_limit, Frame, good, bad}
 use Rattle.frame.specs.Joiner.{joining_of, joiner_in_ranges}
 use Rattle.frame.specs.Promise.{FieldOwes, LossOwes, FreshMade}
@@ -32,16 +33,16 @@ pub data HandedOut : Joiner → Type 0 where
 pub record Never17 : Type 0 where
   pub within : {j : Joiner} → HandedOut j → joiner_in_ranges j ≡ true
   pub field : {j : Joiner} {type : ℕ} {octets old new : List ℕ} {r : Joined} → HandedOut j → FieldOwes j type octets old new r
-      → r.answer ≡ handed.Refused (refusal outside_ranges) → ⊥
-  pub loss : {j : Joiner} {r : Joined} → HandedOut j → LossOwes j r → r.answer ≡ handed.Refused (refusal outside_ranges) → ⊥
+      → r.answer ≡ Err (refusal outside_ranges) → ⊥
+  pub loss : {j : Joiner} {r : Joined} → HandedOut j → LossOwes j r → r.answer ≡ Err (refusal outside_ranges) → ⊥
 
 -- ---- the honest line
 -- the frame that an answer returns, at the front of the caller's buffer
-abbrev pub frames_in : Handed → List ℕ → List Frame
-frames_in handed.Nothing new = []
-frames_in (handed.Good n) new = good (take n new) ∷ []
-frames_in (handed.Bad n) new = bad (take n new) ∷ []
-frames_in (handed.Refused why) new = []
+abbrev pub frames_in : Result Handed Refusal → List ℕ → List Frame
+frames_in (Ok handed.Nothing) new = []
+frames_in (Ok (handed.Good n)) new = good (take n new) ∷ []
+frames_in (Ok (handed.Bad n)) new = bad (take n new) ∷ []
+frames_in (Err why) new = []
 
 -- from this joiner on, calls for these events return these frames: each call has room for any frame, and any answer that its promise allows
 pub data HandsOut : Joiner → List Event → List Frame → Type 0 where

@@ -1,10 +1,12 @@
 -- What each call of a joiner promises (rules 16.11 to 16.16). Each promise settles the answer, the joiner after the call and the caller's
 -- whole buffer, for every joiner of the struct's type and every input. Definitions only.
-use Rattle.std.specs.Prelude.{ℕ, ◌≡◌, Bool, true, not, cond, List, [], ◌∷◌, length, ltb, eqb}
+use Rattle.std.specs.Prelude.{ℕ, ◌≡◌, Bool, true, not, cond, List, [], ◌∷◌, Result, Ok, Err, length, ltb, eqb}
 use Rattle.std.proofs.Math.Option.{Option, none, some}
-use Rattle.length.specs.Refusals.{not_assigned, no_room, wrong_data, outside_ranges, frame_too_long}
+use Rattle.length.specs.Refusals.{not_assigned, no_room, wrong_data, outside_ranges, frame_too_long, number_of}
 use Rattle.length.specs.Answers.{Answer, done, refused, mapped, over}
 use Rattle.length.specs.Tables.{when, unless}
+use Rattle.length.specs.declared.Refusal.{Refusal}
+use Rattle.length.specs.declared.Reason.{Reason}
 use Rattle.packet.specs.Packet.{types_limit, right_data}
 use Rattle.frame.specs.Frame.{joiner_edition, Joining, tainted, fresh_joining, Frame, good, bad, field_step, would_pass}
 use Rattle.frame.specs.Joiner.{held_as, joining_of, joiner_in_ranges}
@@ -21,11 +23,11 @@ pub data Told : Type 0 where
   bad_of : ℕ → Told
 
 -- each case of the answer, as the rules' number and values (rule 30.10)
-abbrev pub handed_outcome : Handed → Answer Told
-handed_outcome handed.Nothing = done nothing
-handed_outcome (handed.Good n) = done (good_of n)
-handed_outcome (handed.Bad n) = done (bad_of n)
-handed_outcome (handed.Refused r) = refused r
+abbrev pub handed_outcome : Result Handed Refusal → Answer Told
+handed_outcome (Ok handed.Nothing) = done nothing
+handed_outcome (Ok (handed.Good n)) = done (good_of n)
+handed_outcome (Ok (handed.Bad n)) = done (bad_of n)
+handed_outcome (Err r) = refused r
 
 abbrev pub frame_octets : Option Frame → List ℕ
 frame_octets none = []
@@ -43,11 +45,11 @@ told_in answer = mapped told_of answer
 -- whether a call changes the joiner: 18 is the only refusal that does (rules 2.25 and 16.13)
 abbrev pub changes : Answer (Option Frame) → Bool
 changes (done frame) = true
-changes (refused r) = eqb r.number frame_too_long
+changes (refused r) = eqb (number_of r.reason) (number_of frame_too_long)
 
 -- ---- a field, with a buffer of `room` octets
 -- its refusals in order: 17, 12, 14, 18, 13 (rule 16.14)
-abbrev pub field_rows : ℕ → ℕ → List ℕ → Joiner → List (Option ℕ)
+abbrev pub field_rows : ℕ → ℕ → List ℕ → Joiner → List (Option Reason)
 field_rows room type octets j =
     when (not (joiner_in_ranges j)) outside_ranges
     ∷ when (ltb (types_limit joiner_edition) type) not_assigned

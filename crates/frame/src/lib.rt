@@ -8,6 +8,7 @@ ghost use Rattle.frame.specs.Promise.{FreshMade};
 use length::Refusal;
 
 // What a joiner keeps: whether it is tainted, and the size and octets of the open frame. Octets past the size are zero (rule 16.16).
+// The fields are those of C's `tbx_joiner`, which may hold any flag and any size.
 #[derive(Drop)]
 #[derive(Clone, Copy)]
 pub struct Joiner {
@@ -16,21 +17,20 @@ pub struct Joiner {
     pub frame: [u8; Joiner::LIMIT],
 }
 
-// What a call returns: nothing, or the size of a good or a bad frame, which is at the front of the caller's buffer; or why the call is
-// refused.
+// What a call returns: nothing, or the size of a good or a bad frame, which is at the front of the caller's buffer. There are three cases:
+// an Option of a size would need a flag for good or bad beside it.
 #[derive(Drop)]
 pub enum Handed {
     Nothing,
     Good(usize),
     Bad(usize),
-    Refused(Refusal),
 }
 
-// What a call returns, and the joiner after it.
+// What a call returns or why it is refused, and the joiner after it.
 #[derive(Drop)]
 pub struct Joined {
     pub joiner: Joiner,
-    pub answer: Handed,
+    pub answer: Result<Handed, Refusal>,
 }
 
 impl Joiner {

@@ -11,8 +11,8 @@ use Rattle.packet.specs.Packet.{every, root, addition, enumerated, type_of_msg, 
 use Rattle.packet.specs.Packet.{data_field, packet}
 use Rattle.packet.specs.Packet as description
 use Rattle.packet.specs.Edition.{choice_of, of_choice}
-use Rattle.packet.specs.declared.types.Choice.{Choice}
-use Rattle.packet.specs.declared.types.Choice.TheVariants as choice
+use Rattle.std.proofs.Common as std
+use Rattle.packet.specs.declared.types.Named.{Named}
 use Rattle.packet.specs.declared.types.Named.TheVariants.{Old, New}
 use Rattle.packet.specs.declared.types.Ending.TheVariants.{Whole}
 use Rattle.frame.specs.Frame.{Joining, fresh_joining, with_added, good_frame, on_open, field_step}
@@ -54,7 +54,7 @@ claims =
       example = refl;
       new_example = refl;
     } where
-      by : (c : Choice) → events_read [] (of_choice c (λ e. description.read_packet e Whole [])) ≡ a_loss ∷ []
-      by (choice.Edition Old) = refl
-      by (choice.Edition New) = refl
-      by choice.Neither = refl
+      by : (c : std.Option Named) → events_read [] (of_choice c (λ e. description.read_packet e Whole [])) ≡ a_loss ∷ []
+      by (std.Some Old) = refl
+      by (std.Some New) = refl
+      by std.None = refl

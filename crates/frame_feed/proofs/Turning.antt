@@ -1,4 +1,6 @@
 -- The functions of this crate, on plain values: one law for each way in which one returns. Assumes nothing.
+use Rattle.std.proofs.Common.{Result, Ok, Err, Some, None}
+use Rattle.std.proofs.Common as std
 use Prim.Native.Nat.{ℕ, zero, suc, ◌+◌, ◌-◌, ◌≤◌, ◌<◌}
 use mathlib.Core.Path.{◌≡◌, refl, sym, ap, subst, ◌∙◌}
 use mathlib.Core.List.{List, [], ◌∷◌, ◌++◌, map}
@@ -11,13 +13,10 @@ use Rattle.length.specs.declared.Refusal.{Refusal}
 use Rattle.packet.specs.Edition.{edition_of, choice_of, of_choice, by_edition}
 use Rattle.packet.specs.Packet.{fields_limit, PacketAnswer, read_packet, no_field, data_of}
 use Rattle.packet.specs.Promise.{padded_fields, packet_read, PacketTold}
-use Rattle.packet.specs.declared.types.Choice.{Choice}
-use Rattle.packet.specs.declared.types.Choice.TheVariants as choice
+use Rattle.packet.specs.declared.types.Named.{Named}
 use Rattle.packet.specs.declared.types.Ending.{Ending}
 use Rattle.packet.specs.declared.types.PacketKind.{PacketKind}
 use Rattle.packet.specs.declared.types.Field as packets
-use Rattle.packet.specs.declared.types.PacketReading.{PacketReading}
-use Rattle.packet.specs.declared.types.PacketReading.TheVariants as reading
 use Rattle.packet.specs.declared.types.PacketRead.{PacketRead}
 use Rattle.packet.proofs.Claims as packet_claims
 use Rattle.session.specs.Cells.{State}
@@ -39,24 +38,16 @@ record DoneAs (a : Answer PacketAnswer) (read : PacketRead) (count : ℕ) : Type
   many : count ≡ length packet.fields
   fields : read.fields ≡ padded_fields packet.fields
 
-done-as : (a : Answer PacketAnswer) {read : PacketRead} {k : PacketKind} {v n : ℕ} → read ≡ packet_read a → read.reading ≡ reading.Packet k v n
-    → DoneAs a read n
-done-as (done p) {read} {k} {v} {n} whole told =
-    let same : reading.Packet k v n ≡ reading.Packet p.kind p.value (length p.fields) =
-    sym told ∙ ap (λ (r : PacketRead). r.reading) whole in
-    record { packet = p; is = refl; many = cc; fields = ap (λ (r : PacketRead). r.fields) whole }
-done-as (refused why) {read} {k} {v} {n} whole told =
-    let same : reading.Packet k v n ≡ reading.Refused why = sym told ∙ ap (λ (r : PacketRead). r.reading) whole in
-    let z : ◌≡◌ {A = ℕ} 0 1 = cc in
-    absurd (omega arith)
+done-as : (a : Answer PacketAnswer) {r : Result PacketRead Refusal} {read : PacketRead} → r ≡ packet_read a → r ≡ Ok read
+    → DoneAs a read read.count
+done-as (done p) {r} {read} whole told =
+    let same : read ≡ record { kind = p.kind; value = p.value; count = length p.fields; fields = padded_fields p.fields } = cc in
+    record { packet = p; is = refl; many = ap (λ (x : PacketRead). x.count) same; fields = ap (λ (x : PacketRead). x.fields) same }
+done-as (refused why) {r} {read} whole told = let z : ◌≡◌ {A = ℕ} 0 1 = cc in absurd (omega arith)
 
-refused-events : (s : List ℕ) (a : Answer PacketAnswer) {read : PacketRead} {why : Refusal} → read ≡ packet_read a
-    → read.reading ≡ reading.Refused why → events_read s a ≡ a_loss ∷ []
-refused-events s (done p) {read} {why} whole told =
-    let same : reading.Packet p.kind p.value (length p.fields) ≡ reading.Refused why =
-    sym (ap (λ (r : PacketRead). r.reading) whole) ∙ told in
-    let z : ◌≡◌ {A = ℕ} 0 1 = cc in
-    absurd (omega arith)
+refused-events : (s : List ℕ) (a : Answer PacketAnswer) {r : Result PacketRead Refusal} {why : Refusal} → r ≡ packet_read a
+    → r ≡ Err why → events_read s a ≡ a_loss ∷ []
+refused-events s (done p) {r} {why} whole told = let z : ◌≡◌ {A = ℕ} 0 1 = cc in absurd (omega arith)
 refused-events s (refused x) whole told = refl
 
 -- ---- a list's element
@@ -82,25 +73,25 @@ mapped-long f (x ∷ l) (suc n) e = ap suc (mapped-long f l n (omega arith))
 
 -- ---- the turns
 -- the parts of a packet that reads in the edition of its octet lie within its octets
-parts_within : (c : Choice) (ending : Ending) (s : List ℕ) (p : PacketAnswer) → of_choice c (λ e. read_packet e ending s) ≡ done p
+parts_within : (c : std.Option Named) (ending : Ending) (s : List ℕ) (p : PacketAnswer) → of_choice c (λ e. read_packet e ending s) ≡ done p
     → (i : ℕ) → (get_or p.fields i no_field).start + (get_or p.fields i no_field).size ≤ length s
-parts_within (choice.Edition named) ending s p is i = (packet_claims.claims).parts_within (edition_of named) ending s p is i
-parts_within choice.Neither ending s p is i = let z : ◌≡◌ {A = ℕ} 0 1 = cc in absurd (omega arith)
+parts_within (std.Some named) ending s p is i = (packet_claims.claims).parts_within (edition_of named) ending s p is i
+parts_within std.None ending s p is i = let z : ◌≡◌ {A = ℕ} 0 1 = cc in absurd (omega arith)
 
 -- what a packet reads as, by the octet and by its kind
 abbrev read_as : ℕ → State → List ℕ → Answer PacketAnswer
 read_as edition kind s = by_edition edition (λ d. read_packet d (ending_of kind) s)
 
-module _ (edition : ℕ) (kind : State) (s : List ℕ) {e : Ending} {read : PacketRead} (by_kind : e ≡ ending_of kind)
-    (told : PacketTold (by_edition edition (λ d. read_packet d e s)) read) where
-  whole-by-kind : read ≡ packet_read (read_as edition kind s)
+module _ (edition : ℕ) (kind : State) (s : List ℕ) {e : Ending} {r : Result PacketRead Refusal} (by_kind : e ≡ ending_of kind)
+    (told : PacketTold (by_edition edition (λ d. read_packet d e s)) r) where
+  whole-by-kind : r ≡ packet_read (read_as edition kind s)
   whole-by-kind = told.whole ∙ ap (λ (x : Ending). packet_read (by_edition edition (λ d. read_packet d x s))) by_kind
 
-  module _ {k : PacketKind} {v n : ℕ} (is : read.reading ≡ reading.Packet k v n) where
-    packet-as : DoneAs (read_as edition kind s) read n
+  module _ {read : PacketRead} (is : r ≡ Ok read) where
+    packet-as : DoneAs (read_as edition kind s) read read.count
     packet-as = done-as (read_as edition kind s) whole-by-kind is
 
-    pub turns-packet : TurnsTold edition kind s n
+    pub turns-packet : TurnsTold edition kind s read.count
     unfolding events_of
     turns-packet =
         record {
@@ -111,14 +102,14 @@ module _ (edition : ℕ) (kind : State) (s : List ℕ) {e : Ending} {read : Pack
               ∙ length-events s packet-as.packet.fields);
         }
 
-    pub turn-there : {turn : ℕ} → turn < n → length read.fields ≡ fields_limit → turn < fields_limit
+    pub turn-there : {turn : ℕ} → turn < read.count → length read.fields ≡ fields_limit → turn < fields_limit
     unfolding padded_fields
     turn-there {turn} below long =
         let fields = packet-as.packet.fields in
         let padding = length-append fields (replicate (fields_limit - length fields) no_field) in
         omega (arith, packet-as.many, ap length packet-as.fields, padding)
 
-    pub turn-field : {turn : ℕ} → turn < n → TurnTold edition kind s turn (turns.Field (get_or read.fields turn no_field))
+    pub turn-field : {turn : ℕ} → turn < read.count → TurnTold edition kind s turn (Some (turns.Field (get_or read.fields turn no_field)))
     unfolding events_of padded_fields
     turn-field {turn} below =
         let fields = packet-as.packet.fields in
@@ -135,7 +126,7 @@ module _ (edition : ℕ) (kind : State) (s : List ℕ) {e : Ending} {read : Pack
           inside = rw same (parts_within (choice_of edition) (ending_of kind) s packet-as.packet packet-as.is turn);
         }
 
-    pub turn-over : {turn : ℕ} → n ≤ turn → TurnTold edition kind s turn turns.Over
+    pub turn-over : {turn : ℕ} → read.count ≤ turn → TurnTold edition kind s turn None
     unfolding events_of
     turn-over {turn} end =
         let fields = packet-as.packet.fields in
@@ -147,7 +138,7 @@ module _ (edition : ℕ) (kind : State) (s : List ℕ) {e : Ending} {read : Pack
           inside = omega arith;
         }
 
-  module _ {why : Refusal} (is : read.reading ≡ reading.Refused why) where
+  module _ {why : Refusal} (is : r ≡ Err why) where
     loss-as : events_read s (read_as edition kind s) ≡ a_loss ∷ []
     loss-as = refused-events s (read_as edition kind s) whole-by-kind is
 
@@ -155,12 +146,12 @@ module _ (edition : ℕ) (kind : State) (s : List ℕ) {e : Ending} {read : Pack
     unfolding events_of
     turns-refused = record { answer = sym (ap length loss-as) }
 
-    pub turn-loss : {turn : ℕ} → turn ≡ 0 → TurnTold edition kind s turn turns.Loss
+    pub turn-loss : {turn : ℕ} → turn ≡ 0 → TurnTold edition kind s turn (Some turns.Loss)
     unfolding events_of
     turn-loss {turn} first =
         record { event = sym (ap (λ (l : List Event). get_elem? l turn) loss-as ∙ ap (get_elem? (a_loss ∷ [])) first); inside = omega arith }
 
-    pub turn-past : {turn : ℕ} → (turn ≡ 0 → ⊥) → TurnTold edition kind s turn turns.Over
+    pub turn-past : {turn : ℕ} → (turn ≡ 0 → ⊥) → TurnTold edition kind s turn None
     unfolding events_of
     turn-past {turn} later =
         record { event = sym (ap (λ (l : List Event). get_elem? l turn) loss-as ∙ none_left turn later); inside = omega arith }
@@ -170,30 +161,3 @@ module _ (edition : ℕ) (kind : State) (s : List ℕ) {e : Ending} {read : Pack
         none_left (suc t) other = refl
 
 pub ruleset turnings = (turns-packet, turns-refused, turn-field, turn-over, turn-loss, turn-past)
-
--- ---- a turn, fed
-module _ {edition : ℕ} {kind : State} {s : List ℕ} {turn : ℕ} {t : Turn} (told : TurnTold edition kind s turn t) where
-  pub feed-inside : {f : packets.Field} → t ≡ turns.Field f → f.start + f.size ≤ length s
-  feed-inside {f} is = rw is at told.inside
-
-  -- what is owed, by the turn
-  fed-as : {j : Joiner} {old new : List ℕ} {r : Joined} (event : Option Event) → event_in s t ≡ event → EventOwes event j old new r
-      → FeedOwes j edition kind s turn old new r
-  fed-as {j} {old} {new} {r} event is owes =
-      record { owes = subst (λ (ev : Option Event). EventOwes ev j old new r) (sym is ∙ told.event) owes }
-
-  pub feed-field : {f : packets.Field} {j : Joiner} {old new : List ℕ} {r : Joined} → t ≡ turns.Field f
-      → FieldOwes j f.kind (take (f.start + f.size - f.start) (drop f.start s)) old new r
-      → FeedOwes j edition kind s turn old new r
-  feed-field {f} {j} {old} {new} {r} is owes =
-      let size : f.start + f.size - f.start ≡ f.size = omega arith in
-      fed-as (some (a_field (field_in s f))) (ap (event_in s) is) (rw size at owes)
-
-  pub feed-loss : {j : Joiner} {old : List ℕ} {r : Joined} → t ≡ turns.Loss → LossOwes j r → FeedOwes j edition kind s turn old old r
-  feed-loss is owes = fed-as (some a_loss) (ap (event_in s) is) (record { owes = owes; lent = refl })
-
-  pub feed-over : {j : Joiner} {old : List ℕ} → t ≡ turns.Over
-      → FeedOwes j edition kind s turn old old (record { joiner = j; answer = handed.Nothing })
-  feed-over is = fed-as none (ap (event_in s) is) (record { answer = refl; lent = refl })
-
-pub ruleset feedings = (feed-field, feed-loss, feed-over)

@@ -1,6 +1,7 @@
 -- How the numbers that left a receiving session, released or lost, are fed to a joiner (rules 17.1 to 17.3). A packet that does not read,
 -- or whose octet names no edition, is fed as one lost number, since nothing in it can be trusted. Definitions only.
-use Rattle.std.specs.Prelude.{ℕ, List, [], ◌∷◌, ◌++◌, map, take}
+use Rattle.std.specs.Prelude.{ℕ, List, [], ◌∷◌, ◌++◌, map, take, Result, Ok, Err}
+use Rattle.length.specs.declared.Refusal.{Refusal}
 use Rattle.length.specs.Answers.{Answer, done, refused}
 use Rattle.packet.specs.Edition.{by_edition}
 use Rattle.packet.specs.Packet.{PacketAnswer, read_packet, data_of}
@@ -11,7 +12,6 @@ use Rattle.session.specs.Cells.{State, unknown, received, spare, repaired, blank
 use Rattle.session_held.specs.declared.ReleaseKind.{ReleaseKind}
 use Rattle.session_held.specs.declared.ReleaseKind.TheVariants as kinds
 use Rattle.session_release.specs.declared.Released.{Released}
-use Rattle.session_release.specs.declared.Released.TheVariants as answer
 use Rattle.frame.specs.Frame.{Frame, fresh_joining}
 use Rattle.frame.specs.Line.{Field, Event, a_field, a_loss, handed_by}
 
@@ -28,9 +28,9 @@ heard_as edition kinds.Spare octets = released edition spare octets
 heard_as edition kinds.Repaired octets = released edition repaired octets
 heard_as edition kinds.Lost octets = lost
 
-abbrev pub heard_from : ℕ → Released → List ℕ → List Heard
-heard_from edition (answer.Number kind number note size) buffer = heard_as edition kind (take size buffer) ∷ []
-heard_from edition (answer.Refused why) buffer = []
+abbrev pub heard_from : ℕ → Result Released Refusal → List ℕ → List Heard
+heard_from edition (Ok left) buffer = heard_as edition left.kind (take left.size buffer) ∷ []
+heard_from edition (Err why) buffer = []
 
 -- a packet that was released as repaired is read as repaired, and any other as received (rule 17.1)
 abbrev pub ending_of : State → Ending

@@ -1,5 +1,5 @@
 -- What each call of this crate promises (rules 17.1 to 17.3). Definitions only.
-use Rattle.std.specs.Prelude.{ℕ, ◌≡◌, List, length}
+use Rattle.std.specs.Prelude.{ℕ, ◌≡◌, List, Ok, length}
 use Rattle.std.proofs.Math.Option.{Option, none, some}
 use Rattle.std.proofs.Math.ListN.{get_elem?}
 use Rattle.session.specs.Cells.{State}
@@ -20,7 +20,7 @@ pub record LossFed (j : Joiner) (old new : List ℕ) (r : Joined) : Type 0 where
   pub lent : new ≡ old
 
 pub record NothingFed (j : Joiner) (old new : List ℕ) (r : Joined) : Type 0 where
-  pub answer : r ≡ record { joiner = j; answer = handed.Nothing }
+  pub answer : r ≡ record { joiner = j; answer = Ok handed.Nothing }
   pub lent : new ≡ old
 
 abbrev pub EventOwes : Option Event → Joiner → List ℕ → List ℕ → Joined → Type 0

@@ -28,18 +28,15 @@ pub fn feed(
 ) -> Joined
     ensures { FeedOwes joiner edition (state_of kind) packet.now turn out.old out.new result }
 {
-    let event = turn_of(edition, kind, packet, turn);
-    match event {
-        Turn::Field(f) => {
-            let number = f.kind;
-            let from = f.start;
-            let to = from + f.size;
-            field(joiner, number, &packet[from..to], out)
+    match turn_of(edition, kind, packet, turn) {
+        Some(Turn::Field(f)) => {
+            let end = f.start + f.size;
+            field(joiner, f.kind, &packet[f.start..end], out)
         }
-        Turn::Loss => lost(joiner),
-        Turn::Over => Joined {
+        Some(Turn::Loss) => lost(joiner),
+        None => Joined {
             joiner,
-            answer: Handed::Nothing,
+            answer: Ok(Handed::Nothing),
         },
     }
 }

@@ -5,15 +5,14 @@ ghost use Rattle.frame_feed.specs.Feed.{ending_of};
 ghost use Rattle.frame_feed.specs.Promise.{TurnsTold};
 ghost use Rattle.frame_feed.specs.Inner.{TurnTold};
 
-use packet::{Ending, Field, PacketReading};
+use packet::{Ending, Field};
 use session_held::ReleaseKind;
 
-// One turn: a field of the packet, a lost number, or nothing more.
+// One turn: a field of the packet, or a lost number.
 #[derive(Drop)]
 pub enum Turn {
     Field(Field),
     Loss,
-    Over,
 }
 
 // A packet that was released as repaired is read as repaired, and any other as received (rule 17.1).
@@ -33,43 +32,26 @@ pub fn turns(edition: u8, kind: ReleaseKind, packet: &[u8]) -> usize
     ensures { TurnsTold edition (state_of kind) packet.now result }
 {
     let ending = ending_of(kind);
-    let read = packet_reader::read(edition, packet, ending);
-    let reading = read.reading;
-    match reading {
-        PacketReading::Packet {
-            kind: _,
-            value: _,
-            count,
-        } => count,
-        PacketReading::Refused(_) => 1,
+    match packet_reader::read(edition, packet, ending) {
+        Ok(read) => read.count,
+        Err(_) => 1,
     }
 }
 
-// One of these turns.
-pub fn turn_of(edition: u8, kind: ReleaseKind, packet: &[u8], turn: usize) -> Turn
+// One of these turns, or none past the last.
+pub fn turn_of(edition: u8, kind: ReleaseKind, packet: &[u8], turn: usize) -> Option<Turn>
     ensures { TurnTold edition (state_of kind) packet.now turn result }
 {
     let ending = ending_of(kind);
-    let read = packet_reader::read(edition, packet, ending);
-    let reading = read.reading;
-    match reading {
-        PacketReading::Packet {
-            kind: _,
-            value: _,
-            count,
-        } => {
-            if turn < count {
+    match packet_reader::read(edition, packet, ending) {
+        Ok(read) => {
+            if turn < read.count {
                 let fields = read.fields;
-                let f = fields[turn];
-                return Turn::Field(f);
+                Some(Turn::Field(fields[turn]))
+            } else {
+                None
             }
-            Turn::Over
         }
-        PacketReading::Refused(_) => {
-            if turn == 0 {
-                return Turn::Loss;
-            }
-            Turn::Over
-        }
+        Err(_) => { if turn == 0 { Some(Turn::Loss) } else { None } }
     }
 }

@@ -5,6 +5,7 @@ use mathlib.Core.Bool.{Bool, true, false, not, cond, ◌&&◌, false≢true}
 use mathlib.Core.List.{List, [], ◌∷◌, ◌++◌}
 use mathlib.Core.Logic.{⊎_elim}
 use mathlib.Core.Option.{Option, none, some}
+use Rattle.std.proofs.Common.{Ok}
 use lib.ListN.{length, take, drop, replicate, length-append, take-append-drop}
 use lib.Seq.{drop-drop}
 use lib.Dec.{ltb, eqb}
@@ -45,7 +46,7 @@ drop-zeros (suc m) (suc n) = drop-zeros m n ∙ ap (λ (k : ℕ). replicate {A =
 
 pub add-fits : {size n : ℕ} {octets storage part : List ℕ} → LaidOut size storage → length octets ≤ frame_limit - size
     → Put octets (mid_of size (length storage - size) storage) part n
-    → Adds size octets storage (put_mid size (length storage - size) storage part) (kept_as false (size + n) handed.Nothing)
+    → Adds size octets storage (put_mid size (length storage - size) storage part) (kept_as false (size + n) (Ok handed.Nothing))
 unfolding in_storage
 add-fits {size} {n} {octets} {storage} {part} l fits put =
     let open-long = length-open l in
@@ -73,7 +74,7 @@ add-fits {size} {n} {octets} {storage} {part} l fits put =
       whole =
           λ old.
           rw (le-ltb (frame_limit - size) (length octets) fits)
-          (ap₂ (λ (s : List ℕ) (k : ℕ). leaves (kept_as false (size + k) handed.Nothing) s old) new put.answer);
+          (ap₂ (λ (s : List ℕ) (k : ℕ). leaves (kept_as false (size + k) (Ok handed.Nothing)) s old) new put.answer);
     }
 
 -- ---- give
@@ -82,12 +83,12 @@ pub give-short : {size : ℕ} {answer : Handed} {storage old : List ℕ} {r : Ke
 give-short {size} {old = old} short told = record { whole = rw (lt-ltb (length old) size short, told) }
 
 pub give-whole : {size n : ℕ} {answer : Handed} {storage new_storage old new : List ℕ} → LaidOut size storage → size ≤ length old
-    → Put (take size storage) old new n → new_storage ≡ in_storage [] → Gives size answer storage new_storage old new (kept_as false 0 answer)
+    → Put (take size storage) old new n → new_storage ≡ in_storage [] → Gives size answer storage new_storage old new (kept_as false 0 (Ok answer))
 give-whole {size} {answer = answer} {storage} {new_storage} {old} {new} l room put cleared =
     record {
       whole =
           rw (le-ltb (length old) size room)
-          (ap₂ (λ (s z : List ℕ). leaves (kept_as false 0 answer) s z) cleared
+          (ap₂ (λ (s z : List ℕ). leaves (kept_as false 0 (Ok answer)) s z) cleared
           (put.lent ∙ ap (λ (k : ℕ). take size storage ++ drop k old) (length-open l)));
     }
 
@@ -167,7 +168,7 @@ module _ {size type : ℕ} {octets storage : List ℕ} (g : Admitted size type o
       let pass : passes (take size storage) octets ≡ false = passes-told ∙ fits in
       let whole : length (take size storage ++ octets) ≡ size + length octets =
       length-append (take size storage) octets ∙ ap (λ (k : ℕ). k + length octets) (length-open g.frame) in
-      feeds-left (leaves (kept_as false (size + length octets) handed.Nothing) (in_storage (take size storage ++ octets)) old)
+      feeds-left (leaves (kept_as false (size + length octets) (Ok handed.Nothing)) (in_storage (take size storage ++ octets)) old)
       (a.whole old ∙ rw fits)
       (owes_nothing {k = joiner_of false (size + length octets) (in_storage (take size storage ++ octets))}
       (ap held_as (after_open (record { handed = none; after = opened (take size storage ++ octets) }) (rw (is, pass)))
@@ -187,7 +188,7 @@ module _ {size type : ℕ} {octets storage : List ℕ} (g : Admitted size type o
         → Gives size answer storage new_storage old new r
         → ((e : field_answer (length old) type octets (joiner_of false size storage) ≡ done (some frame))
         → FieldOwes (joiner_of false size storage) type octets old (take size storage ++ drop size old)
-        (joined_of (kept_as false 0 answer) (in_storage [])))
+        (joined_of (kept_as false 0 (Ok answer)) (in_storage [])))
         → FieldFed false size type octets storage new_storage old new r
     gives-out {answer} {new_storage} {old} {new} {r} frame is long m owes =
         let told = answer-ends (length old) (record { handed = some frame; after = opened [] }) is (ne_eqb type 0 other) in
@@ -200,7 +201,7 @@ module _ {size type : ℕ} {octets storage : List ℕ} (g : Admitted size type o
         (owes-stays no_room (told ∙ rw none_left) refl))
         (λ room.
         let enough : ltb (length old) (length (frame_octets (some frame))) ≡ false = measured ∙ room in
-        feeds-left (leaves (kept_as false 0 answer) (in_storage []) (take size storage ++ drop size old)) (m.whole ∙ rw room)
+        feeds-left (leaves (kept_as false 0 (Ok answer)) (in_storage []) (take size storage ++ drop size old)) (m.whole ∙ rw room)
         (owes (told ∙ rw enough)))
         (true-or-false (ltb (length old) size))
 
@@ -240,7 +241,7 @@ module _ {size type : ℕ} {octets storage : List ℕ} (g : Admitted size type o
         rw (ne_eqb type 0 other, not-bad)
         (dropped (take size storage) (hands_good type) (ltb 0 (length (take size storage)))
         (ap (λ (k : ℕ). hands_good type && ltb 0 k) (length-open g.frame) ∙ hands)) in
-        feeds-left (leaves (kept_as false 0 handed.Nothing) (in_storage []) old)
+        feeds-left (leaves (kept_as false 0 (Ok handed.Nothing)) (in_storage []) old)
         (ap₂ (λ (k : Kept) (s : List ℕ). leaves k s old) m.kept m.storage)
         (owes_nothing {k = joiner_of false 0 (in_storage [])} (ap held_as (after_open _ is))
         (answer-ends (length old) _ is (ne_eqb type 0 other) ∙ rw (le-ltb (length old) 0 (omega arith))))

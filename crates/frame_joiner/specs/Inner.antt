@@ -1,7 +1,9 @@
 -- What the functions inside this crate promise each other. The last two records are what `feed` and `taint` promise, whose callers lend
 -- the storage. It adds nothing to the meaning. Definitions only.
-use Rattle.std.specs.Prelude.{ℕ, ◌+◌, ◌-◌, ◌≤◌, ◌≡◌, Bool, true, false, not, cond, List, [], ◌++◌, length, take, drop, ltb}
+use Rattle.std.specs.Prelude.{ℕ, ◌+◌, ◌-◌, ◌≤◌, ◌≡◌, Bool, true, false, not, cond, List, [], ◌++◌, Result, Ok, Err, length, take, drop, ltb}
 use Rattle.length.specs.Refusals.{refusal, no_room, frame_too_long}
+use Rattle.length.specs.declared.Refusal.{Refusal}
+use Rattle.length.specs.declared.Reason.{Reason}
 use Rattle.packet.specs.Packet.{types_limit, right_data}
 use Rattle.frame.specs.Frame.{joiner_edition, frame_limit, ends_frame}
 use Rattle.frame.specs.Joiner.{in_storage, ranges_of}
@@ -25,16 +27,16 @@ joiner_of taint size storage = record { tainted = taint; size = size; frame = st
 abbrev pub joined_of : Kept → List ℕ → Joined
 joined_of k storage = record { joiner = joiner_of k.tainted k.size storage; answer = k.answer }
 
-abbrev pub kept_as : Bool → ℕ → Handed → Kept
+abbrev pub kept_as : Bool → ℕ → Result Handed Refusal → Kept
 kept_as taint size answer = record { tainted = taint; size = size; answer = answer }
 
 -- a refusal that changes nothing
-abbrev pub unchanged : Bool → ℕ → ℕ → Kept
-unchanged taint size number = kept_as taint size (handed.Refused (refusal number))
+abbrev pub unchanged : Bool → ℕ → Reason → Kept
+unchanged taint size why = kept_as taint size (Err (refusal why))
 
 -- a field while tainted (rules 16.8 and 16.9)
 abbrev pub waited : ℕ → Kept
-waited type = kept_as (not (ends_frame type)) 0 handed.Nothing
+waited type = kept_as (not (ends_frame type)) 0 (Ok handed.Nothing)
 
 -- what a function leaves: its answer, the storage and the caller's buffer
 pub record Remains : Type 0 where
@@ -49,7 +51,7 @@ leaves kept storage lent = record { kept = kept; storage = storage; lent = lent 
 abbrev pub adds_to : ℕ → List ℕ → List ℕ → List ℕ → Remains
 adds_to size octets storage old =
     cond (ltb (frame_limit - size) (length octets)) (leaves (unchanged true 0 frame_too_long) (in_storage []) old)
-    (leaves (kept_as false (size + length octets) handed.Nothing) (in_storage (take size storage ++ octets)) old)
+    (leaves (kept_as false (size + length octets) (Ok handed.Nothing)) (in_storage (take size storage ++ octets)) old)
 
 pub record Adds (size : ℕ) (octets storage new : List ℕ) (r : Kept) : Type 0 where
   pub whole : (old : List ℕ) → leaves r new old ≡ adds_to size octets storage old
@@ -58,13 +60,13 @@ pub record Adds (size : ℕ) (octets storage new : List ℕ) (r : Kept) : Type 0
 abbrev pub gives_to : ℕ → Handed → List ℕ → List ℕ → Remains
 gives_to size answer storage old =
     cond (ltb (length old) size) (leaves (unchanged false size no_room) storage old)
-    (leaves (kept_as false 0 answer) (in_storage []) (take size storage ++ drop size old))
+    (leaves (kept_as false 0 (Ok answer)) (in_storage []) (take size storage ++ drop size old))
 
 pub record Gives (size : ℕ) (answer : Handed) (storage new_storage old new : List ℕ) (r : Kept) : Type 0 where
   pub whole : leaves r new_storage new ≡ gives_to size answer storage old
 
 pub record Drops (taint : Bool) (new : List ℕ) (r : Kept) : Type 0 where
-  pub kept : r ≡ kept_as taint 0 handed.Nothing
+  pub kept : r ≡ kept_as taint 0 (Ok handed.Nothing)
   pub storage : new ≡ in_storage []
 
 -- a field that is not refused with 17, 12 or 14, while a frame of this size is open

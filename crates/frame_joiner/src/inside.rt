@@ -8,16 +8,16 @@ ghost use Rattle.frame_joiner.specs.Inner.{LaidOut, Adds, Gives, Drops, Admitted
 
 use datagram_writer::put_octets;
 use frame::{Handed, Joiner};
-use length::Refusal;
+use length::{Reason, Refusal};
 use packet::Field;
 use packet_rules::right_data;
 
-// A joiner after a call, without its storage, and what the call returns.
+// A joiner after a call, and what the call returns. C lends the frame's storage, so the other parts of a joiner are apart from it.
 #[derive(Drop)]
 pub struct Kept {
     pub tainted: bool,
     pub size: u16,
-    pub answer: Handed,
+    pub answer: Result<Handed, Refusal>,
 }
 
 // The mask of the storage, in the form that `session_slots` uses for a slot.
@@ -37,6 +37,7 @@ fn in_ranges(tainted: bool, size: usize, frame: &[u8]) -> bool
     if Joiner::LIMIT < size {
         return false;
     }
+    // `|` and `&` do not branch: with `||` and `&&` the proof would need a case for each branch.
     let bare = !tainted | (size == 0);
     let table = passing();
     let clean = session_slots::zeros_in_run(frame, size, &table);
@@ -55,31 +56,30 @@ fn clear(frame: &mut [u8], size: usize)
 fn hands_good(kind: u8) -> bool
     ensures { result ≡ hands_good kind }
 {
-    (kind == 2) | (kind == 4)
+    kind == 2 || kind == 4
 }
 
 fn hands_bad(kind: u8) -> bool
     ensures { result ≡ hands_bad kind }
 {
-    (kind == 3) | (kind == 5)
+    kind == 3 || kind == 5
 }
 
 // Types 1 to 5, which end a taint (rule 16.8).
 fn ends_frame(kind: u8) -> bool
     ensures { result ≡ ends_frame kind }
 {
-    (1 <= kind) & (kind <= 5)
+    1 <= kind && kind <= 5
 }
 
 // A refusal that changes nothing.
-fn refused(tainted: bool, size: u16, number: u8) -> Kept
-    ensures { result ≡ unchanged tainted size number }
+fn refused(tainted: bool, size: u16, reason: Reason) -> Kept
+    ensures { result ≡ unchanged tainted size reason }
 {
-    let why = Refusal::new(number);
     Kept {
         tainted,
         size,
-        answer: Handed::Refused(why),
+        answer: Err(Refusal::new(reason)),
     }
 }
 
@@ -87,11 +87,10 @@ fn refused(tainted: bool, size: u16, number: u8) -> Kept
 fn wait(kind: u8) -> Kept
     ensures { result ≡ waited kind }
 {
-    let over = ends_frame(kind);
     Kept {
-        tainted: !over,
+        tainted: !ends_frame(kind),
         size: 0,
-        answer: Handed::Nothing,
+        answer: Ok(Handed::Nothing),
     }
 }
 
@@ -102,14 +101,13 @@ fn add(size: usize, frame: &mut [u8], octets: &[u8]) -> Kept
 {
     if Joiner::LIMIT - size < octets.len() {
         clear(frame, size);
-        return refused(true, 0, Refusal::FRAME_TOO_LONG);
+        return refused(true, 0, Reason::FrameTooLong);
     }
     let more = put_octets(octets, &mut frame[size..]);
-    let whole = size + more;
     Kept {
         tainted: false,
-        size: whole as u16,
-        answer: Handed::Nothing,
+        size: (size + more) as u16,
+        answer: Ok(Handed::Nothing),
     }
 }
 
@@ -120,14 +118,14 @@ fn give(size: usize, frame: &mut [u8], answer: Handed, out: &mut [u8]) -> Kept
     ensures { Gives size answer frame.old frame.new out.old out.new result }
 {
     if out.len() < size {
-        return refused(false, size as u16, Refusal::NO_ROOM);
+        return refused(false, size as u16, Reason::NoRoom);
     }
     put_octets(&frame[..size], out);
     clear(frame, size);
     Kept {
         tainted: false,
         size: 0,
-        answer,
+        answer: Ok(answer),
     }
 }
 
@@ -140,26 +138,25 @@ fn drop_open(size: usize, frame: &mut [u8], tainted: bool) -> Kept
     Kept {
         tainted,
         size: 0,
-        answer: Handed::Nothing,
+        answer: Ok(Handed::Nothing),
     }
 }
 
-// A field while the joiner is not tainted (rules 16.2 to 16.7).
+// A field while the joiner is not tainted (rules 16.2 to 16.7). `&` does not branch: with `&&` the proof would need a case for each branch.
 fn join(size: usize, frame: &mut [u8], kind: u8, octets: &[u8], out: &mut [u8]) -> Kept
     requires { Admitted size kind octets.now frame.old }
     ensures { FieldFed false size kind octets.now frame.old frame.new out.old
         out.new result }
 {
     if kind == 0 {
-        return add(size, frame, octets);
+        add(size, frame, octets)
+    } else if hands_bad(kind) {
+        give(size, frame, Handed::Bad(size), out)
+    } else if hands_good(kind) & (0 < size) {
+        give(size, frame, Handed::Good(size), out)
+    } else {
+        drop_open(size, frame, false)
     }
-    if hands_bad(kind) {
-        return give(size, frame, Handed::Bad(size), out);
-    }
-    if hands_good(kind) & (0 < size) {
-        return give(size, frame, Handed::Good(size), out);
-    }
-    drop_open(size, frame, false)
 }
 
 // One field, with the refusals in the order 17, 12, 14, then 18 or 13 (rule 16.14).
@@ -176,13 +173,13 @@ pub fn feed(
 {
     let n = size as usize;
     if !in_ranges(tainted, n, frame) {
-        return refused(tainted, size, Refusal::OUTSIDE_RANGES);
+        return refused(tainted, size, Reason::OutsideRanges);
     }
     if Field::TYPES < kind {
-        return refused(tainted, size, Refusal::NOT_ASSIGNED);
+        return refused(tainted, size, Reason::NotAssigned);
     }
     if !right_data(kind, 0 < octets.len()) {
-        return refused(tainted, size, Refusal::WRONG_DATA);
+        return refused(tainted, size, Reason::WrongData);
     }
     if tainted {
         return wait(kind);
@@ -196,7 +193,7 @@ pub fn taint(tainted: bool, size: u16, frame: &mut [u8; Joiner::LIMIT]) -> Kept
 {
     let n = size as usize;
     if !in_ranges(tainted, n, frame) {
-        return refused(tainted, size, Refusal::OUTSIDE_RANGES);
+        return refused(tainted, size, Reason::OutsideRanges);
     }
     drop_open(n, frame, true)
 }

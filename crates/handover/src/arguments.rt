@@ -2,16 +2,12 @@
 use std::env::FillError;
 use std::rt::Env;
 
-// The place of each FILE among the arguments, NONE if it is not given; and whether there is no other argument.
+// The place of each FILE among the arguments, if it is given.
 #[derive(Drop)]
 pub struct Files {
-    pub load: usize,
-    pub save: usize,
-    pub well: bool,
+    pub load: Option<usize>,
+    pub save: Option<usize>,
 }
-
-// The place of the program's own name.
-pub const NONE: usize = 0;
 
 // How many characters of an argument are compared with a word.
 const LONGEST: usize = 16;
@@ -44,34 +40,15 @@ fn is_save(rt: &HostRuntime, at: usize) -> bool {
     is_word(rt, at, b"--save")
 }
 
-fn named(load: usize, save: usize) -> Files {
-    Files {
-        load,
-        save,
-        well: true,
-    }
-}
-
-pub fn asked_for(rt: &HostRuntime) -> Files {
-    let count = arg_count(rt);
-    if count == 1 {
-        return named(NONE, NONE);
-    }
-    if (count == 3) & is_load(rt, 1) {
-        return named(2, NONE);
-    }
-    if (count == 3) & is_save(rt, 1) {
-        return named(NONE, 2);
-    }
-    if (count == 5) & is_load(rt, 1) & is_save(rt, 3) {
-        return named(2, 4);
-    }
-    if (count == 5) & is_save(rt, 1) & is_load(rt, 3) {
-        return named(4, 2);
-    }
-    Files {
-        load: NONE,
-        save: NONE,
-        well: false,
-    }
+// The files, or None if there is another argument.
+pub fn asked_for(rt: &HostRuntime) -> Option<Files> {
+    let (load, save) = match arg_count(rt) {
+        1 => (None, None),
+        3 if is_load(rt, 1) => (Some(2), None),
+        3 if is_save(rt, 1) => (None, Some(2)),
+        5 if is_load(rt, 1) && is_save(rt, 3) => (Some(2), Some(4)),
+        5 if is_save(rt, 1) && is_load(rt, 3) => (Some(4), Some(2)),
+        _ => return None,
+    };
+    Some(Files { load, save })
 }

@@ -4,20 +4,18 @@ ghost use Rattle.session_held.specs.Table.{lent_by};
 ghost use Rattle.session_held.specs.Laid.{InRanges};
 ghost use Rattle.handover.specs.Promise.{BeginsWith};
 
-use crate::arguments::NONE;
+use crate::PATH_MAX;
 use crate::telling::{say_failed, say_long, say_refused};
-use crate::{PATH_MAX, name_of};
-use image::{Image, Restore};
+use image::Image;
+use program_input::open;
 use session_held::Session;
-use std::fs::File;
-use std::io;
 use std::io::Read;
 use std::rt::Env;
 
 // What is read of a file: one character more than the longest image, just enough to know that a text is too long.
 const TEXT: usize = Image::LIMIT + 1;
 
-// The session, and whether nothing went wrong.
+// The session, and whether nothing went wrong. The session is within its ranges in either case; a Result would not say so of a failure.
 #[derive(Drop)]
 pub struct Begun {
     pub session: Session,
@@ -37,13 +35,12 @@ fn restored(rt: &HostRuntime, path: &[u8], text: &[u8]) -> Begun
 {
     let found = image_reader::read(text);
     let session = found.session;
-    let answer = found.answer;
-    match answer {
-        Restore::Done => Begun {
+    match found.answer {
+        Ok(()) => Begun {
             session,
             well: true,
         },
-        Restore::Refused(why) => {
+        Err(why) => {
             say_refused(rt, path, why);
             Begun {
                 session,
@@ -58,6 +55,7 @@ fn read_full<R: Read>(file: &mut R, text: &mut [u8]) -> usize
     ensures { result ≤ length text.new }
 {
     let mut size = 0;
+    // The place moves by what was read.
     while size < text.len() {
         let n = file.read(&mut text[size..]).unwrap_or(0);
         if n == 0 {
@@ -66,10 +64,6 @@ fn read_full<R: Read>(file: &mut R, text: &mut [u8]) -> usize
         size += n;
     }
     size
-}
-
-fn open(rt: &HostRuntime, path: &[u8]) -> io::Result<File> {
-    File::open(rt, name_of(path)?)
 }
 
 // The session of the image in a file; `text` has room for the image.
@@ -88,12 +82,12 @@ fn load(rt: &HostRuntime, path: &[u8], text: &mut [u8]) -> Begun
     }
 }
 
-pub fn begin(rt: &HostRuntime, at: usize) -> Begun
+pub fn begin(rt: &HostRuntime, at: Option<usize>) -> Begun
     ensures { InRanges (lent_by result.session) }
 {
-    if at == NONE {
+    let Some(at) = at else {
         return fresh(true);
-    }
+    };
     let mut path = [0u8; PATH_MAX];
     let mut text = [0u8; TEXT];
     match rt.arg(at, &mut path) {

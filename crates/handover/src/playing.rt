@@ -3,17 +3,17 @@ ghost use Rattle.session_held.specs.Table.{lent_by, view_of};
 ghost use Rattle.session_held.specs.Laid.{InRanges};
 ghost use Rattle.handover.specs.Promise.{RunsFrom};
 
-use length::Written;
+use length::Refusal;
 use session_held::Session;
 
 // How many octets were read and how many passed to `write`, whether all results were written up to the end of the input, and what the image
-// writer returned.
+// writer returned. The other fields hold after a failed write too, so `whole` is a flag beside them.
 #[derive(Drop)]
 pub struct Played {
     pub taken: usize,
     pub handed: usize,
     pub whole: bool,
-    pub image: Written,
+    pub image: Result<usize, Refusal>,
 }
 
 pub fn play(rt: &HostRuntime, session: Session, out: &mut [u8]) -> Played

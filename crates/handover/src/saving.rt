@@ -3,11 +3,11 @@
 ghost use Rattle.session_held.specs.Table.{lent_by};
 ghost use Rattle.session_held.specs.Laid.{InRanges};
 
+use crate::PATH_MAX;
 use crate::playing::{Played, play};
 use crate::telling::{say_failed, say_unwritten};
-use crate::{PATH_MAX, name_of};
 use image::Image;
-use length::Written;
+use program_input::name_of;
 use session_held::Session;
 use std::fs::{File, OpenOptions};
 use std::io::{Error, ErrorKind, Write};
@@ -16,27 +16,21 @@ use std::{fs, io};
 // The longest name to which a suffix can be added.
 const LONGEST: usize = PATH_MAX - 4;
 
-// Makes the name of the file beside one whose name has `size` characters, and returns its length. A name that is too long is filled up,
-// and no file can have it.
-pub fn name_beside(path: &mut [u8; PATH_MAX], size: usize) -> usize {
+// Makes the name of the file beside one whose name has `size` characters, in the buffer that holds that name. A name that is too long is
+// filled up, and no file can have it.
+pub fn name_beside(path: &mut [u8; PATH_MAX], size: usize) -> &[u8] {
     if LONGEST < size {
         path[size.min(PATH_MAX)..].fill(b'.');
-        return PATH_MAX;
+        return &path[..];
     }
-    path[size] = b'.';
-    path[size + 1] = b'n';
-    path[size + 2] = b'e';
-    path[size + 3] = b'w';
-    size + 4
+    let end = size + 4;
+    path[size..end].copy_from_slice(b".new");
+    &path[..end]
 }
 
 // The first `size` octets, or none if there are fewer.
 fn front(octets: &[u8], size: usize) -> &[u8] {
-    if size <= octets.len() {
-        let start = 0;
-        return &octets[start..size];
-    }
-    &octets[..0]
+    octets.get(..size).unwrap_or(&[])
 }
 
 // A file can be replaced if there is none of that name, or if it can be written and is on a disk; for any other this fails. A device or a
@@ -69,8 +63,8 @@ fn put(file: &mut File, text: &[u8]) -> io::Result<()> {
 fn put_image(file: &mut File, played: Played, image: &[u8]) -> io::Result<()> {
     let written = played.image;
     match written {
-        Written::Octets(size) => put(file, front(image, size)),
-        Written::Refused(_) => Err(Error::from(ErrorKind::InvalidData)),
+        Ok(size) => put(file, front(image, size)),
+        Err(_) => Err(Error::from(ErrorKind::InvalidData)),
     }
 }
 
@@ -95,18 +89,10 @@ fn remove(rt: &HostRuntime, beside: &[u8]) {
     }
 }
 
-// Runs from a session on, and saves the image at the end in the file at `path`, by way of the file beside it, whose name has `size`
-// characters.
-pub fn play_and_save(
-    rt: &HostRuntime,
-    session: Session,
-    path: &[u8],
-    name: &[u8; PATH_MAX],
-    size: usize,
-)
+// Runs from a session on, and saves the image at the end in the file at `path`, by way of the file beside it.
+pub fn play_and_save(rt: &HostRuntime, session: Session, path: &[u8], beside: &[u8])
     requires { InRanges (lent_by session) }
 {
-    let beside = front(name, size);
     let mut image = [0u8; Image::LIMIT];
     match open_beside(rt, path, beside) {
         Err(why) => say_failed(rt, path, b"cannot be written", why),

@@ -1,19 +1,13 @@
 // What the program writes on standard error (rule 20.24).
-use length::Refusal;
+use length::{Reason, Refusal};
+use program_input::{say, words_of};
 use std::io;
 use std::io::Write;
-
-pub fn say(rt: &HostRuntime, text: &[u8]) {
-    let _ = rt.stderr().write_all(text);
-}
 
 // The system's own message for an error, without its number.
 fn say_reason(rt: &HostRuntime, why: io::Error) {
     if let Ok(text) = format!(in rt.alloc(); "{why}") {
-        match text.as_str().split_once(" (os error ") {
-            Some((reason, _)) => say(rt, reason.as_bytes()),
-            None => say(rt, text.as_bytes()),
-        }
+        say(rt, words_of(text.as_str()).as_bytes());
     }
 }
 
@@ -28,14 +22,13 @@ pub fn say_failed(rt: &HostRuntime, path: &[u8], what: &[u8], why: io::Error) {
     say(rt, b"\n");
 }
 
-fn say_meaning(rt: &HostRuntime, number: u8) {
-    if number == Refusal::OUTSIDE_RANGES {
-        return say(rt, b", a session outside its ranges\n");
-    }
-    if number == Refusal::OTHER_EDITION {
-        return say(rt, b", an image of a version that is not known here\n");
-    }
-    say(rt, b", a line is missing, extra or misshapen\n")
+fn say_meaning(rt: &HostRuntime, reason: Reason) {
+    let meaning = match reason {
+        Reason::OutsideRanges => "a session outside its ranges",
+        Reason::OtherEdition => "an image of a version that is not known here",
+        _ => "a line is missing, extra or misshapen",
+    };
+    let _ = writeln!(rt.stderr(), ", {meaning}");
 }
 
 // A text that is refused as an image.
@@ -43,9 +36,9 @@ pub fn say_refused(rt: &HostRuntime, path: &[u8], why: Refusal) {
     say(rt, b"handover: ");
     say(rt, path);
     say(rt, b": does not read as an image: refusal ");
-    let number = why.number;
+    let number = why.number();
     let _ = write!(rt.stderr(), "{number}");
-    say_meaning(rt, number)
+    say_meaning(rt, why.reason)
 }
 
 pub fn say_long(rt: &HostRuntime) {

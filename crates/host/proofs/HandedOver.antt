@@ -9,7 +9,7 @@ use lib.Seq.{take-append_seam}
 use lib.Dec.{leb}
 use native.Mathlib.Omega.{arith}
 use borrow.Author.Tests.{le-leb}
-use Rattle.length.specs.Refusals.{no_room, outside_ranges}
+use Rattle.length.specs.Refusals.{no_room, outside_ranges, number_of}
 use Rattle.length.specs.Answers.{Answer, done, refuse, fitted, size_of, over}
 use Rattle.length.specs.Tables.{unless}
 use Rattle.datagram.specs.Sizes.{packet_limit}
@@ -52,7 +52,7 @@ done-inside s old told-done = by (session_in_ranges s) refl
   where
     by : (b : Bool) → session_in_ranges s ≡ b → b ≡ true
     by true e = refl
-    by false e = let z : ◌≡◌ {A = ℕ} outside_ranges 0 = rw (none-to-write s e) at told-done in absurd (omega arith)
+    by false e = let z : ◌≡◌ {A = ℕ} (number_of outside_ranges) 0 = rw (none-to-write s e) at told-done in absurd (omega arith)
 
 done-fits : (a : Answer (List ℕ)) (text old : List ℕ) → a ≡ done text → (wrote_told (size_of (fitted a old))).refusal ≡ 0
     → fitted a old ≡ done text
@@ -60,7 +60,7 @@ done-fits a text old is told-done = by (leb (length text) (length old)) refl
   where
     by : (b : Bool) → leb (length text) (length old) ≡ b → fitted a old ≡ done text
     by true e = rw (is, e)
-    by false e = let z : ◌≡◌ {A = ℕ} no_room 0 = rw (is, e) at told-done in absurd (omega arith)
+    by false e = let z : ◌≡◌ {A = ℕ} (number_of no_room) 0 = rw (is, e) at told-done in absurd (omega arith)
 
 module _ (s : Session) (old : List ℕ) {new : List ℕ} {w : Wrote} (answer : w ≡ told_of s old)
     (lent : new ≡ over (fitted (image_to_write image_version02 (lent_by s)) old) old) (ok : w.refusal ≡ 0) where
@@ -96,7 +96,7 @@ module _ (s : Session) (within : InRanges (lent_by s)) (small : LentOctets (lent
 
 -- ---- room for any image
 room-enough : (s : Session) (old : List ℕ) → Sized s → LentOctets (lent_by s) → image_limit packet_limit ≤ length old
-    → (told_of s old).refusal ≡ no_room → ⊥
+    → (told_of s old).refusal ≡ number_of no_room → ⊥
 room-enough s old sized small room short = by (session_in_ranges s) refl
   where
     by : (b : Bool) → session_in_ranges s ≡ b → ⊥
@@ -107,9 +107,9 @@ room-enough s old sized small room short = by (session_in_ranges s) refl
         let most = (images.claims).sized.most packet_limit (view_of s) holds in
         let long = (images.claims).sized.settled image_version02 (view_of s) in
         let fits = le-leb (length text) (length old) (omega (arith, most, long, room)) in
-        let z : ◌≡◌ {A = ℕ} 0 no_room = rw (to_write s e, fits) at short in
+        let z : ◌≡◌ {A = ℕ} 0 (number_of no_room) = rw (to_write s e, fits) at short in
         omega arith
-    by false e = let z : ◌≡◌ {A = ℕ} outside_ranges no_room = rw (none-to-write s e) at short in omega arith
+    by false e = let z : ◌≡◌ {A = ℕ} (number_of outside_ranges) (number_of no_room) = rw (none-to-write s e) at short in omega arith
 
 pub handed-over : HandedOver
 handed-over =

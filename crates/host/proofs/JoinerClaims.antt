@@ -10,7 +10,7 @@ use lib.Dec.{ltb, eqb}
 use native.Mathlib.Omega.{arith}
 use borrow.Author.Tests.{lt-ltb, eq-eqb, ne_eqb}
 use Rattle.octets.proofs.Laws.{true-or-false, and_left, and_right}
-use Rattle.length.specs.Refusals.{not_assigned, no_room, wrong_data, outside_ranges, frame_too_long}
+use Rattle.length.specs.Refusals.{not_assigned, no_room, wrong_data, outside_ranges, frame_too_long, number_of}
 use Rattle.length.specs.Answers.{Answer, done, refused, mapped, over}
 use Rattle.length.specs.Tables.{when, unless}
 use Rattle.packet.specs.Packet.{types_limit, right_data}
@@ -63,12 +63,12 @@ memory-back : (m : Memory) → no_flag m ≡ false → in_memory (joiner_in m) �
 memory-back m low = ap (λ (t : ℕ). memory_of t m.size m.frame) (flag-back m.tainted low)
 
 -- an answer that is neither done nor 18 changes nothing, and no refusal writes
-no_change : (a : Answer (Option Frame)) → ((frame_told (told_in a)).refusal ≡ 0 → ⊥) → ((frame_told (told_in a)).refusal ≡ frame_too_long → ⊥)
+no_change : (a : Answer (Option Frame)) → ((frame_told (told_in a)).refusal ≡ 0 → ⊥) → ((frame_told (told_in a)).refusal ≡ number_of frame_too_long → ⊥)
     → changes a ≡ false
 no_change (done none) more other = absurd (more refl)
 no_change (done (some (good frame))) more other = absurd (more refl)
 no_change (done (some (bad frame))) more other = absurd (more refl)
-no_change (refused why) more other = ne_eqb why.number frame_too_long other
+no_change (refused why) more other = ne_eqb (number_of why.reason) (number_of frame_too_long) other
 
 no-writing : (a : Answer (Option Frame)) (old : List ℕ) → ((frame_told (told_in a)).refusal ≡ 0 → ⊥) → over (mapped frame_octets a) old ≡ old
 no-writing (done none) old more = absurd (more refl)
@@ -82,7 +82,7 @@ stays m b j low same = rw same (memory-back m low)
 
 module _ (room type : ℕ) (octets : List ℕ) (m : Memory) where
   field-stays : ((frame_told (told_in (field_joined room type octets m))).refusal ≡ 0 → ⊥)
-      → ((frame_told (told_in (field_joined room type octets m))).refusal ≡ frame_too_long → ⊥)
+      → ((frame_told (told_in (field_joined room type octets m))).refusal ≡ number_of frame_too_long → ⊥)
       → memory_after room type octets m ≡ m
   unfolding field_joined memory_after joiner_after
   field-stays more other =
@@ -110,8 +110,8 @@ loss-stays m more =
     (true-or-false (no_flag m))
 
 -- ---- 18: the frame would pass 300
-other-number : {n : ℕ} → eqb n frame_too_long ≡ false → n ≡ frame_too_long → ⊥
-other-number {n} differs e = false≢true (sym differs ∙ ap (λ (k : ℕ). eqb k frame_too_long) e)
+other-number : {n : ℕ} → eqb n (number_of frame_too_long) ≡ false → n ≡ number_of frame_too_long → ⊥
+other-number {n} differs e = false≢true (sym differs ∙ ap (λ (k : ℕ). eqb k (number_of frame_too_long)) e)
 
 done-told : (x : Option Frame) → (frame_told (told_in (done x))).refusal ≡ 0
 done-told none = refl
@@ -120,7 +120,7 @@ done-told (some (bad frame)) = refl
 
 only-18 : (a b c d e : Bool) (x : Option Frame)
     → (frame_told (told_in (unless
-    (when a outside_ranges ∷ when b not_assigned ∷ when c wrong_data ∷ when d frame_too_long ∷ when e no_room ∷ []) x))).refusal ≡ frame_too_long
+    (when a outside_ranges ∷ when b not_assigned ∷ when c wrong_data ∷ when d frame_too_long ∷ when e no_room ∷ []) x))).refusal ≡ number_of frame_too_long
     → d ≡ true
 unfolding unless
 only-18 true b c d e x told = absurd (other-number refl told)
@@ -136,12 +136,12 @@ passing-taints type octets tainted e = absurd (false≢true e)
 passing-taints type octets (opened frame) e =
     rw (and_left (adds type) (passes frame octets) e, and_right (adds type) (passes frame octets) e)
 
-changes-18 : (a : Answer (Option Frame)) → (frame_told (told_in a)).refusal ≡ frame_too_long → changes a ≡ true
+changes-18 : (a : Answer (Option Frame)) → (frame_told (told_in a)).refusal ≡ number_of frame_too_long → changes a ≡ true
 changes-18 (done x) told = refl
-changes-18 (refused why) told = eq-eqb why.number frame_too_long told
+changes-18 (refused why) told = eq-eqb (number_of why.reason) (number_of frame_too_long) told
 
 module _ (room type : ℕ) (octets : List ℕ) (m : Memory) where
-  passes-told : (frame_told (told_in (field_answer room type octets (joiner_in m)))).refusal ≡ frame_too_long
+  passes-told : (frame_told (told_in (field_answer room type octets (joiner_in m)))).refusal ≡ number_of frame_too_long
       → would_pass type octets (joining_of (joiner_in m)) ≡ true
   unfolding field_answer
   passes-told told =
@@ -150,7 +150,7 @@ module _ (room type : ℕ) (octets : List ℕ) (m : Memory) where
       (not (right_data joiner_edition type (ltb 0 (length octets)))) (would_pass type octets (joining_of (joiner_in m)))
       (ltb room (length (frame_octets step.handed))) step.handed told
 
-  field-taints : (frame_told (told_in (field_joined room type octets m))).refusal ≡ frame_too_long
+  field-taints : (frame_told (told_in (field_joined room type octets m))).refusal ≡ number_of frame_too_long
       → memory_after room type octets m ≡ in_memory (held_as tainted)
   unfolding field_joined memory_after joiner_after
   field-taints told =

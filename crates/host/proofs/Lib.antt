@@ -6,7 +6,6 @@ pub mod JoinerClaims
 pub mod PacketLaws
 pub mod PacketClaims
 pub mod Solving
-pub mod Imaging
 mod ImageClaims
 mod HandedOver
 pub mod Claims

@@ -1,24 +1,22 @@
 -- The host's calls on packets, on plain values: what the library's call promises, encoded as numbers. Assumes nothing.
+use Rattle.std.proofs.Common.{Result, Ok, Err}
 use Prim.Native.Nat.{ℕ}
 use mathlib.Core.Path.{◌≡◌, refl, sym, ap, ◌∙◌}
 use mathlib.Core.Bool.{Bool, true, false}
-use mathlib.Core.List.{List}
+use mathlib.Core.List.{List, []}
 use lib.Dec.{ltb}
-use Rattle.length.specs.Refusals.{wrong_settings}
+use Rattle.length.specs.Refusals.{wrong_settings, number_of}
 use Rattle.length.specs.Answers.{Answer, done, refused, refuse, fitted, size_of, over}
 use Rattle.length.specs.Promise.{Puts}
 use Rattle.length.specs.declared.Refusal.{Refusal}
-use Rattle.length.specs.declared.Written.{Written}
 use Rattle.packet.specs.Edition.{by_edition}
 use Rattle.packet.specs.Packet.{PacketAnswer, read_packet}
 use Rattle.packet.specs.Write.{packet_to_write}
-use Rattle.packet.specs.Promise.{PacketTold, packet_read}
+use Rattle.packet.specs.Promise.{PacketTold, packet_read, padded_fields}
 use Rattle.packet.specs.declared.types.PacketKind.{PacketKind}
 use Rattle.packet.specs.declared.types.Ending.{Ending}
 use Rattle.packet.specs.declared.types.Field.{Field}
 use Rattle.packet.specs.declared.types.PacketRead.{PacketRead}
-use Rattle.packet.specs.declared.types.PacketReading.{PacketReading}
-use Rattle.packet.specs.declared.types.PacketReading.TheVariants as reading
 use Rattle.host_answers.specs.Answers.{wrote_told, WrittenTold}
 use Rattle.host_answers.specs.Packet.{ending_named, kind_told, kind_named, packet_told}
 use Rattle.host.specs.Packet.{PacketHosted, packet_asked, WriteHosted}
@@ -26,41 +24,47 @@ use Rattle.host_answers.specs.declared.answers.Wrote.{Wrote}
 use Rattle.host_answers.specs.declared.packet_answers.PacketFound.{PacketFound}
 
 -- ---- read: each case of the reader's answer in numbers
-abbrev reading_told : PacketReading → List Field → PacketFound
-reading_told (reading.Packet k v n) fields = record { refusal = 0; kind = kind_told k; value = v; place = 0; count = n; fields = fields }
-reading_told (reading.Refused why) fields =
-    record { refusal = why.number; kind = 0; value = 0; place = why.place; count = 0; fields = fields }
+abbrev read_told : Result PacketRead Refusal → PacketFound
+read_told (Ok p) = record { refusal = 0; kind = kind_told p.kind; value = p.value; place = 0; count = p.count; fields = p.fields }
+read_told (Err why) =
+    record { refusal = number_of why.reason; kind = 0; value = 0; place = why.place; count = 0; fields = padded_fields [] }
 
-told-whole : (a : Answer PacketAnswer) → reading_told (packet_read a).reading (packet_read a).fields ≡ packet_told a
+told-whole : (a : Answer PacketAnswer) → read_told (packet_read a) ≡ packet_told a
 told-whole (done p) = refl
 told-whole (refused why) = refl
 
-told-reading : (edition : ℕ) (repaired : Bool) (octets : List ℕ) {ending : Ending} {read : PacketRead} → ending ≡ ending_named repaired
-    → PacketTold (by_edition edition (λ e. read_packet e ending octets)) read
-    → reading_told read.reading read.fields ≡ packet_told (by_edition edition (λ e. read_packet e (ending_named repaired) octets))
-told-reading edition repaired octets {ending} is owes =
-    ap (λ (x : PacketRead). reading_told x.reading x.fields) owes.whole
+told-read : (edition : ℕ) (repaired : Bool) (octets : List ℕ) {ending : Ending} {r : Result PacketRead Refusal} → ending ≡ ending_named repaired
+    → PacketTold (by_edition edition (λ e. read_packet e ending octets)) r
+    → read_told r ≡ packet_told (by_edition edition (λ e. read_packet e (ending_named repaired) octets))
+told-read edition repaired octets {ending} is owes =
+    ap read_told owes.whole
     ∙ told-whole (by_edition edition (λ e. read_packet e ending octets))
     ∙ ap (λ (way : Ending). packet_told (by_edition edition (λ e. read_packet e way octets))) is
 
-module _ {edition : ℕ} {repaired : Bool} {octets : List ℕ} {ending : Ending} {read : PacketRead} (is : ending ≡ ending_named repaired)
-    (owes : PacketTold (by_edition edition (λ e. read_packet e ending octets)) read) where
-  pub packet-found : {kind : PacketKind} {value count octet : ℕ} → read.reading ≡ reading.Packet kind value count → octet ≡ kind_told kind
+module _ {edition : ℕ} {repaired : Bool} {octets : List ℕ} {ending : Ending} {r : Result PacketRead Refusal} (is : ending ≡ ending_named repaired)
+    (owes : PacketTold (by_edition edition (λ e. read_packet e ending octets)) r) where
+  pub packet-found : {p : PacketRead} {octet : ℕ} → r ≡ Ok p → octet ≡ kind_told p.kind
       → PacketHosted edition repaired octets
-      (record { refusal = 0; kind = octet; value = value; place = 0; count = count; fields = read.fields })
-  packet-found {value = value} {count} e told =
+      (record { refusal = 0; kind = octet; value = p.value; place = 0; count = p.count; fields = p.fields })
+  packet-found {p} e told =
       record {
         answer =
-            ap (λ (k : ℕ). record { refusal = 0; kind = k; value = value; place = 0; count = count; fields = read.fields }) told
-            ∙ ap (λ (x : PacketReading). reading_told x read.fields) (sym e)
-            ∙ told-reading edition repaired octets is owes;
+            ap (λ (k : ℕ). record { refusal = 0; kind = k; value = p.value; place = 0; count = p.count; fields = p.fields }) told
+            ∙ ap read_told (sym e)
+            ∙ told-read edition repaired octets is owes;
       }
 
-  pub packet-refused : {why : Refusal} → read.reading ≡ reading.Refused why
+  pub packet-refused : {why : Refusal} {none : List Field} {number : ℕ} → r ≡ Err why → none ≡ padded_fields [] → number ≡ number_of why.reason
       → PacketHosted edition repaired octets
-      (record { refusal = why.number; kind = 0; value = 0; place = why.place; count = 0; fields = read.fields })
-  packet-refused e =
-      record { answer = ap (λ (x : PacketReading). reading_told x read.fields) (sym e) ∙ told-reading edition repaired octets is owes }
+      (record { refusal = number; kind = 0; value = 0; place = why.place; count = 0; fields = none })
+  packet-refused {why} e empty named =
+      rw named
+      (record {
+        answer =
+            ap (λ (l : List Field). record { refusal = number_of why.reason; kind = 0; value = 0; place = why.place; count = 0; fields = l }) empty
+            ∙ ap read_told (sym e)
+            ∙ told-read edition repaired octets is owes;
+      })
 
 -- ---- write
 -- an octet that names no kind
@@ -69,14 +73,16 @@ asked-neither : (edition kind value : ℕ) (types lengths octets : List ℕ) →
 unfolding packet_asked
 asked-neither edition kind value types lengths octets many = rw many
 
-pub write-neither : {edition kind value : ℕ} {types lengths octets old : List ℕ} {b : Bool} → b ≡ ltb 1 kind → b ≡ true
-    → WriteHosted edition kind value types lengths octets old old (record { refusal = wrong_settings; place = 0; size = 0 })
-write-neither {edition} {kind} {value} {types} {lengths} {octets} {old} e many =
+pub write-neither : {edition kind value : ℕ} {types lengths octets old : List ℕ} {b : Bool} {number : ℕ} → b ≡ ltb 1 kind → b ≡ true
+    → number ≡ number_of wrong_settings
+    → WriteHosted edition kind value types lengths octets old old (record { refusal = number; place = 0; size = 0 })
+write-neither {edition} {kind} {value} {types} {lengths} {octets} {old} e many named =
     let is = asked-neither edition kind value types lengths octets (sym e ∙ many) in
-    record {
+    rw named
+    (record {
       answer = ap (λ (a : Answer (List ℕ)). wrote_told (size_of (fitted a old))) (sym is);
       lent = ap (λ (a : Answer (List ℕ)). over (fitted a old) old) (sym is);
-    }
+    })
 
 -- and one that names a kind
 asked-kind : (edition kind value : ℕ) (types lengths octets : List ℕ) {named : PacketKind} → ltb 1 kind ≡ false → named ≡ kind_named kind
@@ -84,7 +90,7 @@ asked-kind : (edition kind value : ℕ) (types lengths octets : List ℕ) {named
 unfolding packet_asked
 asked-kind edition kind value types lengths octets few is = rw (few, is)
 
-pub write-hosted : {edition kind value : ℕ} {types lengths octets old new : List ℕ} {named : PacketKind} {answer : Written} {r : Wrote} {b : Bool}
+pub write-hosted : {edition kind value : ℕ} {types lengths octets old new : List ℕ} {named : PacketKind} {answer : Result ℕ Refusal} {r : Wrote} {b : Bool}
     → b ≡ ltb 1 kind → b ≡ false → named ≡ kind_named kind
     → Puts (by_edition edition (λ e. packet_to_write e named value types lengths octets)) old new answer → WrittenTold answer r
     → WriteHosted edition kind value types lengths octets old new r

@@ -1,10 +1,12 @@
 -- The host's calls on a receiving session, on plain values: what the library's call promises, encoded as numbers. Assumes nothing.
+use Rattle.std.proofs.Common.{Result}
+use Rattle.length.specs.declared.Refusal.{Refusal}
 use Prim.Native.Nat.{ℕ}
 use mathlib.Core.Path.{◌≡◌, refl, sym, ap, ◌∙◌}
 use mathlib.Core.Bool.{Bool, true, false}
 use mathlib.Core.List.{List}
 use lib.ListN.{length}
-use Rattle.length.specs.Refusals.{outside_ranges}
+use Rattle.length.specs.Refusals.{outside_ranges, number_of}
 use Rattle.session.specs.View.{View}
 use Rattle.session_held.specs.Table.{lent_by, places}
 use Rattle.session_held.specs.Laid.{InRanges, session_in_ranges}
@@ -13,7 +15,6 @@ use Rattle.session_held.proofs.Laws.{session-in-ranges, in-ranges-true}
 use Rattle.session_release.specs.Promise.{Releases}
 use Rattle.session_release.specs.declared.Released.{Released}
 use Rattle.session_offer.specs.Promise.{Offers}
-use Rattle.session_offer.specs.declared.Offered.{Offered}
 use Rattle.session_calls.specs.Receiver.{offer_of}
 use Rattle.session_calls.proofs.Laws.{offer-outside, offer-inside, release-outside, release-inside}
 use Rattle.host_answers.specs.Answers.{told, release_number, OfferedTold, ReleasedTold}
@@ -24,7 +25,7 @@ use Rattle.host.specs.Receiver.{session_in, RangesHosted, OfferHosted, ReleaseHo
 use Rattle.host.specs.declared.receiver.Head.{Head}
 
 -- ---- offer
-pub offer-hosted : {octets : List ℕ} {h : Head} {t o g t₂ o₂ g₂ : List ℕ} {answer : Offered} {r : Answered}
+pub offer-hosted : {octets : List ℕ} {h : Head} {t o g t₂ o₂ g₂ : List ℕ} {answer : Result (Unit {0}) Refusal} {r : Answered}
     → InRanges (lent_by (session_in h t o g))
     → Offers octets (lent_by (session_in h t o g)) (lent_by (session_in h t₂ o₂ g₂)) answer
     → OfferedTold answer r
@@ -36,17 +37,18 @@ offer-hosted {octets} {h} {t} {o} {g} {t₂} {o₂} {g₂} within m from =
       state = owes.state;
     }
 
-pub offer-refused : {octets : List ℕ} {h : Head} {t o g : List ℕ} {ok : Bool} → RangesHosted h t o g ok → ok ≡ false
-    → OfferHosted octets h t o g t o g (record { refusal = outside_ranges; place = 0 })
-offer-refused {octets} {h} {t} {o} {g} e out =
+pub offer-refused : {octets : List ℕ} {h : Head} {t o g : List ℕ} {ok : Bool} {number : ℕ} → RangesHosted h t o g ok → ok ≡ false
+    → number ≡ number_of outside_ranges → OfferHosted octets h t o g t o g (record { refusal = number; place = 0 })
+offer-refused {octets} {h} {t} {o} {g} e out is =
     let owes = offer-outside {s = session_in h t o g} {octets = octets} e.answer (record { answer = refl }) out in
-    record {
+    rw is
+    (record {
       answer = ap told owes.answer ∙ told-mapped (λ (view : View). tt) (offer_of octets (session_in h t o g));
       state = owes.state;
-    }
+    })
 
 -- ---- release
-pub release-hosted : {leave : Bool} {h after : Head} {t o g t₂ o₂ g₂ old new : List ℕ} {answer : Released} {left : Number}
+pub release-hosted : {leave : Bool} {h after : Head} {t o g t₂ o₂ g₂ old new : List ℕ} {answer : Result Released Refusal} {left : Number}
     → InRanges (lent_by (session_in h t o g))
     → Releases leave (lent_by (session_in h t o g)) (lent_by (session_in after t₂ o₂ g₂)) old new answer
     → ReleasedTold answer left
@@ -55,12 +57,13 @@ release-hosted {leave} {h} {after} {t} {o} {g} {old = old} within m from =
     let owes = release-inside {s = session_in h t o g} {leave = leave} {old = old} {ok = true} (sym (in-ranges-true within)) refl m in
     record { answer = from.is ∙ ap release_number owes.answer; lent = owes.lent; state = owes.state }
 
-pub release-refused : {leave : Bool} {h : Head} {t o g old : List ℕ} {ok : Bool} → RangesHosted h t o g ok → ok ≡ false
+pub release-refused : {leave : Bool} {h : Head} {t o g old : List ℕ} {ok : Bool} {number : ℕ} → RangesHosted h t o g ok → ok ≡ false
+    → number ≡ number_of outside_ranges
     → ReleaseHosted leave h t o g old t o g old
-    (record { head = h; left = record { refusal = outside_ranges; kind = 0; number = 0; note = 0; place = 0; size = 0 } })
-release-refused {leave} {h} {t} {o} {g} {old} e out =
+    (record { head = h; left = record { refusal = number; kind = 0; number = 0; note = 0; place = 0; size = 0 } })
+release-refused {leave} {h} {t} {o} {g} {old} e out is =
     let owes = release-outside {s = session_in h t o g} {leave = leave} {old = old} e.answer (record { answer = refl }) out in
-    record { answer = ap release_number owes.answer; lent = owes.lent; state = owes.state }
+    rw is (record { answer = ap release_number owes.answer; lent = owes.lent; state = owes.state })
 
 -- ---- what the calls require
 pub within-hosted : {h : Head} {t o g : List ℕ} {ok : Bool} → RangesHosted h t o g ok → ok ≡ true → InRanges (lent_by (session_in h t o g))

@@ -1,10 +1,11 @@
 -- The host's call that solves all held messages together, on plain values: what the library's call promises, encoded as numbers.
 -- Assumes nothing.
+use Rattle.std.proofs.Common.{Result, Ok, Err}
 use Prim.Native.Nat.{ℕ}
 use mathlib.Core.Path.{◌≡◌, refl, sym, ap, subst, ◌∙◌}
 use mathlib.Core.Bool.{Bool, true, false}
 use mathlib.Core.List.{List}
-use Rattle.length.specs.Refusals.{outside_ranges}
+use Rattle.length.specs.Refusals.{outside_ranges, number_of}
 use Rattle.length.specs.Answers.{Answer}
 use Rattle.length.specs.declared.Refusal.{Refusal}
 use Rattle.session.specs.View.{View}
@@ -13,8 +14,6 @@ use Rattle.session_held.specs.Laid.{InRanges}
 use Rattle.session_held.proofs.Laws.{in-ranges-true}
 use Rattle.solve_code.specs.Outcome.{solved_outcome}
 use Rattle.solve_code.specs.Promise.{Solving}
-use Rattle.solve_code.specs.declared.Solved.{Solved}
-use Rattle.solve_code.specs.declared.Solved.TheVariants as solved
 use Rattle.session_calls.specs.Receiver.{After}
 use Rattle.session_calls.proofs.Laws.{solve-outside, solve-inside, after_same, one_answer_lem}
 use Rattle.host_answers.specs.Answers.{told}
@@ -25,16 +24,16 @@ use Rattle.host_answers.specs.declared.answers.Answered.{Answered}
 use Rattle.host.specs.declared.receiver.Head.{Head}
 use Rattle.host.proofs.Memory.{same_memory}
 
-pub told-filled : {a : Solved} → a ≡ solved.Filled → SolvedTold a (record { refusal = 0; place = 0 })
-told-filled e = record { is = ap (λ (x : Solved). told (solved_outcome x)) (sym e) }
+pub told-filled : {a : Result (Unit {0}) Refusal} → a ≡ Ok tt → SolvedTold a (record { refusal = 0; place = 0 })
+told-filled e = record { is = ap (λ (x : Result (Unit {0}) Refusal). told (solved_outcome x)) (sym e) }
 
-pub told-unsolved : {a : Solved} {why : Refusal} → a ≡ solved.Refused why
-    → SolvedTold a (record { refusal = why.number; place = why.place })
-told-unsolved e = record { is = ap (λ (x : Solved). told (solved_outcome x)) (sym e) }
+pub told-unsolved : {a : Result (Unit {0}) Refusal} {why : Refusal} {number : ℕ} → a ≡ Err why → number ≡ number_of why.reason
+    → SolvedTold a (record { refusal = number; place = why.place })
+told-unsolved e is = rw is (record { is = ap (λ (x : Result (Unit {0}) Refusal). told (solved_outcome x)) (sym e) })
 
 pub ruleset telling = (told-filled, told-unsolved)
 
-pub solve-hosted : {h : Head} {t o g t₂ o₂ : List ℕ} {answer : Solved} {r : Answered}
+pub solve-hosted : {h : Head} {t o g t₂ o₂ : List ℕ} {answer : Result (Unit {0}) Refusal} {r : Answered}
     → InRanges (lent_by (session_in h t o g))
     → Solving (lent_by (session_in h t o g)) (lent_by (session_in h t₂ o₂ g)) answer
     → SolvedTold answer r
@@ -48,16 +47,17 @@ solve-hosted {h} {t} {o} {g} within m from =
       state = owes.state;
     }
 
-pub solve-refused : {h : Head} {t o g : List ℕ} {ok : Bool} → RangesHosted h t o g ok → ok ≡ false
-    → SolveHosted h t o g t o (record { refusal = outside_ranges; place = 0 })
-solve-refused {h} {t} {o} {g} e out =
+pub solve-refused : {h : Head} {t o g : List ℕ} {ok : Bool} {number : ℕ} → RangesHosted h t o g ok → ok ≡ false
+    → number ≡ number_of outside_ranges → SolveHosted h t o g t o (record { refusal = number; place = 0 })
+solve-refused {h} {t} {o} {g} e out is =
     let owes = solve-outside {s = session_in h t o g} e.answer (record { answer = refl }) out in
-    record {
+    rw is
+    (record {
       wanted = owes.wanted;
       means = owes.means;
       answer = ap told owes.answer ∙ told-mapped (λ (view : View). tt) owes.wanted;
       state = owes.state;
-    }
+    })
 
 -- ---- two outcomes are equal
 pub one-solved : OneSolved

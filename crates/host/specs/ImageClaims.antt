@@ -1,6 +1,6 @@
 -- The claims about the calls from C on images. Statements only.
 use Rattle.std.specs.Prelude.{ℕ, ◌≤◌, ◌≡◌, List, length, take}
-use Rattle.length.specs.Refusals.{no_room}
+use Rattle.length.specs.Refusals.{no_room, number_of}
 use Rattle.datagram.specs.Sizes.{packet_limit}
 use Rattle.session_held.specs.Table.{lent_by}
 use Rattle.session_held.specs.Promise.{Sized}
@@ -30,4 +30,4 @@ pub record HandedOver : Type 0 where
       → (r.answer.refusal ≡ 0) × (session_in r.head table₂ octets₂ messages₂ ≡ session_in h table octets messages)
   pub room : {h : Head} {table octets messages old new : List ℕ} {w : Wrote} → Sized (session_in h table octets messages)
       → LentOctets (lent_by (session_in h table octets messages)) → ImageHosted h table octets messages old new w
-      → image_limit packet_limit ≤ length old → w.refusal ≡ no_room → ⊥
+      → image_limit packet_limit ≤ length old → w.refusal ≡ number_of no_room → ⊥

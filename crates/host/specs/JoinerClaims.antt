@@ -1,6 +1,6 @@
 -- The claims about the calls from C on a joiner. Statements only.
 use Rattle.std.specs.Prelude.{ℕ, ◌≡◌, List}
-use Rattle.length.specs.Refusals.{frame_too_long}
+use Rattle.length.specs.Refusals.{frame_too_long, number_of}
 use Rattle.frame.specs.Frame.{tainted}
 use Rattle.frame.specs.Joiner.{held_as}
 use Rattle.host.specs.Joiner.{Memory, memory_of, in_memory, JoinerMade, FieldHosted, LossHosted}
@@ -20,10 +20,10 @@ pub record OneJoined : Type 0 where
 -- and 24.9)
 pub record RefusalsLeave : Type 0 where
   pub field : {type : ℕ} {octets : List ℕ} {before : Memory} {old frame new : List ℕ} {r : AfterField}
-      → FieldHosted type octets before old frame new r → (r.frame.refusal ≡ 0 → ⊥) → (r.frame.refusal ≡ frame_too_long → ⊥)
+      → FieldHosted type octets before old frame new r → (r.frame.refusal ≡ 0 → ⊥) → (r.frame.refusal ≡ number_of frame_too_long → ⊥)
       → (memory_of r.head.tainted r.head.size frame ≡ before) × (new ≡ old)
   pub too_long : {type : ℕ} {octets : List ℕ} {before : Memory} {old frame new : List ℕ} {r : AfterField}
-      → FieldHosted type octets before old frame new r → r.frame.refusal ≡ frame_too_long
+      → FieldHosted type octets before old frame new r → r.frame.refusal ≡ number_of frame_too_long
       → (memory_of r.head.tainted r.head.size frame ≡ in_memory (held_as tainted)) × (new ≡ old)
   pub lost : {before : Memory} {frame : List ℕ} {r : AfterField} → LossHosted before frame r → (r.frame.refusal ≡ 0 → ⊥)
       → memory_of r.head.tainted r.head.size frame ≡ before

@@ -2,6 +2,7 @@
 -- 24.1 to 24.3, 24.8 and 24.11). A call that takes any memory and its form that requires the ranges promise the same (rule 24.4).
 -- Definitions only.
 use Rattle.std.specs.Prelude.{ℕ, ◌≡◌, Bool, List, length}
+use Rattle.session_release.specs.declared.Released.{Released}
 use Rattle.length.specs.Answers.{over}
 use Rattle.session.specs.Release.{view_after_release}
 use Rattle.session_held.specs.declared.Counts.{Counts}
@@ -14,6 +15,10 @@ use Rattle.host_answers.specs.Answers.{told, release_number}
 use Rattle.host_answers.specs.declared.answers.Answered.{Answered}
 use Rattle.host.specs.declared.receiver.Head.{Head}
 use Rattle.host.specs.declared.receiver.AfterRelease.{AfterRelease}
+
+-- base and counts, as C stores them
+abbrev pub head_of : ℕ → Counts → Head
+head_of base c = record { base = base; received = c.received; spare = c.spare; repaired = c.repaired; lost = c.lost }
 
 -- the session in the caller's memory
 abbrev pub counts_in : Head → Counts

@@ -1,11 +1,11 @@
 -- What the call from C that solves promises: what the library's own call promises, for the session in the caller's memory (rules 14.2, 14.7
 -- and 24.11). The call that takes any memory and its form that requires the ranges promise the same (rules 24.3 and 24.4). Definitions
 -- only.
-use Rattle.std.specs.Prelude.{ℕ, ◌≡◌, List}
+use Rattle.std.specs.Prelude.{ℕ, ◌≡◌, List, Result}
+use Rattle.length.specs.declared.Refusal.{Refusal}
 use Rattle.length.specs.Answers.{Answer}
 use Rattle.session.specs.View.{View}
 use Rattle.solve_code.specs.Outcome.{solved_outcome}
-use Rattle.solve_code.specs.declared.Solved.{Solved}
 use Rattle.session_calls.specs.Receiver.{After}
 use Rattle.session_calls.specs.Solver.{SolvesAs}
 use Rattle.host_answers.specs.Answers.{told}
@@ -13,7 +13,7 @@ use Rattle.host.specs.Receiver.{session_in}
 use Rattle.host_answers.specs.declared.answers.Answered.{Answered}
 use Rattle.host.specs.declared.receiver.Head.{Head}
 
-pub record SolvedTold (from : Solved) (r : Answered) : Type 0 where
+pub record SolvedTold (from : Result (Unit {0}) Refusal) (r : Answered) : Type 0 where
   pub is : r ≡ told (solved_outcome from)
 
 -- table and octets are the table and the packets before it, table₂ and octets₂ after it

@@ -3,8 +3,7 @@ ghost use Rattle.host.specs.Image.{ImageHosted, RestoreHosted};
 
 use crate::receiver::Head;
 use host_answers::{Answered, Wrote, written_told};
-use image::Restore;
-use session_held::{Counts, Session};
+use session_held::Session;
 
 // What reading an image returns: the answer, and base and counts of the session after it.
 #[repr(C)]
@@ -26,12 +25,7 @@ pub extern "C" fn tbx_core_image_write(
     ensures { ImageHosted head table.now octets.now messages.now out.old
         out.new result }
 {
-    let counts = Counts {
-        received: head.received,
-        spare: head.spare,
-        repaired: head.repaired,
-        lost: head.lost,
-    };
+    let counts = head.counts();
     let answer = image_writer::write_core(head.base, counts, table, octets, messages, out);
     written_told(answer)
 }
@@ -50,38 +44,28 @@ pub extern "C" fn tbx_core_image_read(
 {
     let read = image_reader::read(text);
     let session = read.session;
-    let found = read.answer;
-    match found {
-        Restore::Done => {
-            let counts = session.counts;
+    match read.answer {
+        Ok(()) => {
             let new_table = session.table;
             let new_octets = session.octets;
             let new_messages = session.messages;
             *table = new_table;
             *octets = new_octets;
             *messages = new_messages;
-            let restored = Head {
-                base: session.base,
-                received: counts.received,
-                spare: counts.spare,
-                repaired: counts.repaired,
-                lost: counts.lost,
-            };
-            let answer = Answered {
-                refusal: 0,
-                place: 0,
-            };
             AfterRestore {
-                head: restored,
-                answer,
+                head: Head::new(session.base, session.counts),
+                answer: Answered {
+                    refusal: 0,
+                    place: 0,
+                },
             }
         }
-        Restore::Refused(why) => {
-            let answer = Answered {
-                refusal: why.number,
+        Err(why) => AfterRestore {
+            head,
+            answer: Answered {
+                refusal: why.number(),
                 place: why.place,
-            };
-            AfterRestore { head, answer }
-        }
+            },
+        },
     }
 }

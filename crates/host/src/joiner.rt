@@ -9,12 +9,13 @@ use host_answers::{AfterField, JoinerHead, flag, frame_told, no_flag, no_joiner}
 fn kept_told(kept: Kept) -> AfterField
     ensures { KeptTold kept result }
 {
-    let tainted = flag(kept.tainted);
-    let size = kept.size;
-    let answer = kept.answer;
-    let frame = frame_told(answer);
-    let head = JoinerHead { tainted, size };
-    AfterField { head, frame }
+    AfterField {
+        head: JoinerHead {
+            tainted: flag(kept.tainted),
+            size: kept.size,
+        },
+        frame: frame_told(kept.answer),
+    }
 }
 
 // Writes a fresh joiner to the caller's memory (rules 16.1 and 24.18).
@@ -23,11 +24,12 @@ pub extern "C" fn tbx_core_joiner_fresh(frame: &mut [u8; Joiner::LIMIT]) -> Join
     ensures { JoinerMade frame.new result }
 {
     let fresh = Joiner::fresh();
-    let tainted = flag(fresh.tainted);
-    let size = fresh.size;
     let octets = fresh.frame;
     *frame = octets;
-    JoinerHead { tainted, size }
+    JoinerHead {
+        tainted: flag(fresh.tainted),
+        size: fresh.size,
+    }
 }
 
 // Takes one field of a packet, and writes a frame that it ends to the front of `out` (rules 16.2 to 16.16).
@@ -46,9 +48,7 @@ pub extern "C" fn tbx_core_joiner_field(
     if no_flag(tainted) {
         return no_joiner(tainted, size);
     }
-    let stained = tainted == 1;
-    let kept = feed(stained, size, frame, kind, octets, out);
-    kept_told(kept)
+    kept_told(feed(tainted == 1, size, frame, kind, octets, out))
 }
 
 // Takes one lost number (rule 16.8).
@@ -63,7 +63,5 @@ pub extern "C" fn tbx_core_joiner_lost(
     if no_flag(tainted) {
         return no_joiner(tainted, size);
     }
-    let stained = tainted == 1;
-    let kept = taint(stained, size, frame);
-    kept_told(kept)
+    kept_told(taint(tainted == 1, size, frame))
 }

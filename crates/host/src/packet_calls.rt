@@ -2,8 +2,7 @@
 ghost use Rattle.host.specs.Packet.{PacketHosted, WriteHosted};
 
 use host_answers::{PacketFound, Wrote, ending_of, kind_named, kind_told, no_kind, written_told};
-use length::Refusal;
-use packet::PacketReading;
+use length::Reason;
 
 // Reads a packet in the edition that an octet names, as repaired or not (rules 6.13 and 7.1).
 #[unsafe(no_mangle)]
@@ -11,29 +10,29 @@ pub extern "C" fn tbx_core_packet_read(octets: &[u8], edition: u8, repaired: boo
     ensures { PacketHosted edition repaired octets.now result }
 {
     let ending = ending_of(repaired);
-    let read = packet_reader::read(edition, octets, ending);
-    let reading = read.reading;
-    let fields = read.fields;
-    match reading {
-        PacketReading::Packet { kind, value, count } => {
-            let told = kind_told(kind);
+    match packet_reader::read(edition, octets, ending) {
+        Ok(packet) => {
+            let fields = packet.fields;
             PacketFound {
                 refusal: 0,
-                kind: told,
-                value,
+                kind: kind_told(packet.kind),
+                value: packet.value,
                 place: 0,
-                count,
+                count: packet.count,
                 fields,
             }
         }
-        PacketReading::Refused(why) => PacketFound {
-            refusal: why.number,
-            kind: 0,
-            value: 0,
-            place: why.place,
-            count: 0,
-            fields,
-        },
+        Err(why) => {
+            let fields = packet_reader::no_fields();
+            PacketFound {
+                refusal: why.number(),
+                kind: 0,
+                value: 0,
+                place: why.place,
+                count: 0,
+                fields,
+            }
+        }
     }
 }
 
@@ -54,7 +53,7 @@ pub extern "C" fn tbx_core_packet_write(
 {
     if no_kind(kind) {
         return Wrote {
-            refusal: Refusal::WRONG_SETTINGS,
+            refusal: Reason::WrongSettings.number(),
             place: 0,
             size: 0,
         };

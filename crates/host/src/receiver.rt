@@ -1,12 +1,13 @@
 // The receiving session for C: base and counts are passed by value, table and stores by pointer. The functions that require the session's
 // ranges are for memory that only the library wrote (rule 24.4); those that end in `checked` take any memory and refuse 17 (rule 24.3).
+ghost use Rattle.std.specs.Prelude.{◌≡◌};
 ghost use Rattle.session_held.specs.Table.{lent_by};
 ghost use Rattle.session_held.specs.Laid.{InRanges};
 ghost use Rattle.session_held.specs.Promise.{Fresh};
-ghost use Rattle.host.specs.Receiver.{session_in, RangesHosted, OfferHosted, ReleaseHosted};
+ghost use Rattle.host.specs.Receiver.{head_of, counts_in, session_in, RangesHosted, OfferHosted, ReleaseHosted};
 
 use host_answers::{Answered, Number, number_told, offered_told};
-use length::Refusal;
+use length::Reason;
 use session_held::{Counts, Session};
 
 // Base and counts, as C stores them.
@@ -19,6 +20,31 @@ pub struct Head {
     pub spare: u32,
     pub repaired: u32,
     pub lost: u32,
+}
+
+impl Head {
+    pub fn new(base: u16, counts: Counts) -> Head
+        ensures { result ≡ head_of base counts }
+    {
+        Head {
+            base,
+            received: counts.received,
+            spare: counts.spare,
+            repaired: counts.repaired,
+            lost: counts.lost,
+        }
+    }
+
+    pub fn counts(self) -> Counts
+        ensures { result ≡ counts_in self }
+    {
+        Counts {
+            received: self.received,
+            spare: self.spare,
+            repaired: self.repaired,
+            lost: self.lost,
+        }
+    }
 }
 
 // What a release returns: base and counts after it, and the answer.
@@ -39,21 +65,14 @@ pub extern "C" fn tbx_core_fresh(
     ensures { Fresh (session_in result table.new octets.new messages.new) }
 {
     let fresh = Session::fresh();
-    let base = fresh.base;
-    let counts = fresh.counts;
+    // A field's array is stored by way of a variable.
     let new_table = fresh.table;
     let new_octets = fresh.octets;
     let new_messages = fresh.messages;
     *table = new_table;
     *octets = new_octets;
     *messages = new_messages;
-    Head {
-        base,
-        received: counts.received,
-        spare: counts.spare,
-        repaired: counts.repaired,
-        lost: counts.lost,
-    }
+    Head::new(fresh.base, fresh.counts)
 }
 
 // Whether the memory holds a session within its ranges (rules 13.1 to 13.11).
@@ -66,13 +85,7 @@ pub extern "C" fn tbx_core_in_ranges(
 ) -> bool
     ensures { RangesHosted head table.now octets.now messages.now result }
 {
-    let counts = Counts {
-        received: head.received,
-        spare: head.spare,
-        repaired: head.repaired,
-        lost: head.lost,
-    };
-    session_check::in_ranges(head.base, counts, table, octets, messages)
+    session_check::in_ranges(head.base, head.counts(), table, octets, messages)
 }
 
 // Offers any octets from the network to a session within its ranges (rules 10.1 to 10.10).
@@ -88,12 +101,7 @@ pub extern "C" fn tbx_core_offer(
     ensures { OfferHosted datagram.now head table.old octets.old messages.old
         table.new octets.new messages.new result }
 {
-    let counts = Counts {
-        received: head.received,
-        spare: head.spare,
-        repaired: head.repaired,
-        lost: head.lost,
-    };
+    let counts = head.counts();
     let answer = session_offer::offer_core(head.base, counts, table, octets, messages, datagram);
     offered_told(answer)
 }
@@ -114,7 +122,7 @@ pub extern "C" fn tbx_core_offer_checked(
         return tbx_core_offer(head, table, octets, messages, datagram);
     }
     Answered {
-        refusal: Refusal::OUTSIDE_RANGES,
+        refusal: Reason::OutsideRanges.number(),
         place: 0,
     }
 }
@@ -133,25 +141,12 @@ pub extern "C" fn tbx_core_release(
     ensures { ReleaseHosted skip head table.old octets.old messages.old out.old
         table.new octets.new messages.new out.new result }
 {
-    let counts = Counts {
-        received: head.received,
-        spare: head.spare,
-        repaired: head.repaired,
-        lost: head.lost,
-    };
+    let counts = head.counts();
     let done = session_release::release_core(head.base, counts, table, octets, messages, skip, out);
-    let base = done.base;
-    let moved = done.counts;
-    let answer = done.answer;
-    let left = number_told(answer);
-    let after = Head {
-        base,
-        received: moved.received,
-        spare: moved.spare,
-        repaired: moved.repaired,
-        lost: moved.lost,
-    };
-    AfterRelease { head: after, left }
+    AfterRelease {
+        head: Head::new(done.base, done.counts),
+        left: number_told(done.answer),
+    }
 }
 
 // The same for any memory: 17 if it holds no session within its ranges.
@@ -171,7 +166,7 @@ pub extern "C" fn tbx_core_release_checked(
         return tbx_core_release(head, table, octets, messages, skip, out);
     }
     let left = Number {
-        refusal: Refusal::OUTSIDE_RANGES,
+        refusal: Reason::OutsideRanges.number(),
         kind: 0,
         number: 0,
         note: 0,

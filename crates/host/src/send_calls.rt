@@ -5,7 +5,7 @@ ghost use Rattle.sender.specs.Promise.{SenderMade};
 ghost use Rattle.host.specs.Sender.{sender_in, SenderRanges, SendHosted};
 
 use host_answers::{Wrote, settings_of};
-use length::{Refusal, Written};
+use length::Reason;
 use sender::Sender;
 use sender_calls::send_held;
 
@@ -26,12 +26,11 @@ pub extern "C" fn tbx_core_sender_fresh(
     ensures { SenderMade (sender_in result sizes.new octets.new) }
 {
     let fresh = Sender::fresh();
-    let sent = fresh.sent;
     let new_sizes = fresh.sizes;
     let new_octets = fresh.octets;
     *sizes = new_sizes;
     *octets = new_octets;
-    sent
+    fresh.sent
 }
 
 // Whether the memory holds a sending session within its ranges (rule 15.13).
@@ -43,8 +42,7 @@ pub extern "C" fn tbx_core_sender_in_ranges(
 ) -> bool
     ensures { SenderRanges sent sizes.now octets.now result }
 {
-    let wide = sent as usize;
-    sender_history::in_ranges(wide, sizes, octets)
+    sender_history::in_ranges(sent as usize, sizes, octets)
 }
 
 // Sends a packet from a session within its ranges, and writes its datagram to the front of `out` (rules 15.2 to 15.12).
@@ -67,7 +65,7 @@ pub extern "C" fn tbx_core_send(
     let wide = sent as usize;
     let answer = send_held(wide, sizes, octets, packet, settings, out);
     match answer {
-        Written::Octets(size) => {
+        Ok(size) => {
             let next = sent + 1;
             let wrote = Wrote {
                 refusal: 0,
@@ -76,9 +74,9 @@ pub extern "C" fn tbx_core_send(
             };
             AfterSend { sent: next, wrote }
         }
-        Written::Refused(why) => {
+        Err(why) => {
             let wrote = Wrote {
-                refusal: why.number,
+                refusal: why.number(),
                 place: why.place,
                 size: 0,
             };
@@ -106,7 +104,7 @@ pub extern "C" fn tbx_core_send_checked(
         return tbx_core_send(sent, sizes, octets, packet, parity, count, n, out);
     }
     let wrote = Wrote {
-        refusal: Refusal::OUTSIDE_RANGES,
+        refusal: Reason::OutsideRanges.number(),
         place: 0,
         size: 0,
     };

@@ -6,20 +6,19 @@ ghost use Rattle.host.specs.Solver.{SolvedTold, SolveHosted};
 
 use crate::receiver::{Head, tbx_core_in_ranges};
 use host_answers::Answered;
-use length::Refusal;
+use length::{Reason, Refusal};
 use session_held::{Counts, Session};
-use solve_code::Solved;
 
-fn solved_told(answer: Solved) -> Answered
+fn solved_told(answer: Result<(), Refusal>) -> Answered
     ensures { SolvedTold answer result }
 {
     match answer {
-        Solved::Filled => Answered {
+        Ok(()) => Answered {
             refusal: 0,
             place: 0,
         },
-        Solved::Refused(why) => Answered {
-            refusal: why.number,
+        Err(why) => Answered {
+            refusal: why.number(),
             place: why.place,
         },
     }
@@ -38,13 +37,7 @@ pub extern "C" fn tbx_core_solve(
     ensures { SolveHosted head table.old octets.old messages.now table.new
         octets.new result }
 {
-    let counts = Counts {
-        received: head.received,
-        spare: head.spare,
-        repaired: head.repaired,
-        lost: head.lost,
-    };
-    let answer = solve_code::solve_core(head.base, counts, table, octets, messages);
+    let answer = solve_code::solve_core(head.base, head.counts(), table, octets, messages);
     solved_told(answer)
 }
 
@@ -63,7 +56,7 @@ pub extern "C" fn tbx_core_solve_checked(
         return tbx_core_solve(head, table, octets, messages);
     }
     Answered {
-        refusal: Refusal::OUTSIDE_RANGES,
+        refusal: Reason::OutsideRanges.number(),
         place: 0,
     }
 }

@@ -1,6 +1,7 @@
 -- A packet as C gets it, and how C names a kind and a repaired packet (rules 24.5 and 24.17). Definitions only.
 use Rattle.std.specs.Prelude.{ℕ, Bool, cond, [], length, eqb}
 use Rattle.length.specs.Answers.{Answer, done, refused}
+use Rattle.length.specs.Refusals.{number_of}
 use Rattle.packet.specs.Packet.{PacketAnswer}
 use Rattle.packet.specs.Promise.{padded_fields}
 use Rattle.packet.specs.declared.types.PacketKind.{PacketKind}
@@ -25,4 +26,4 @@ kind_named octet = cond (eqb octet 0) Indicator Data
 abbrev pub packet_told : Answer PacketAnswer → PacketFound
 packet_told (done p) =
     record { refusal = 0; kind = kind_told p.kind; value = p.value; place = 0; count = length p.fields; fields = padded_fields p.fields }
-packet_told (refused why) = record { refusal = why.number; kind = 0; value = 0; place = why.place; count = 0; fields = padded_fields [] }
+packet_told (refused why) = record { refusal = number_of why.reason; kind = 0; value = 0; place = why.place; count = 0; fields = padded_fields [] }

@@ -4,9 +4,8 @@ ghost use Rattle.session_held.specs.Table.{state_of};
 ghost use Rattle.line.specs.Lines.{kind_octet};
 ghost use Rattle.host_answers.specs.Answers.{OfferedTold, ReleasedTold, WrittenTold};
 
-use length::Written;
+use length::Refusal;
 use session_held::ReleaseKind;
-use session_offer::Offered;
 use session_release::Released;
 
 // 0, or the refusal's number and place (rules 24.1 and 24.2).
@@ -40,16 +39,16 @@ pub struct Number {
 }
 
 // The answer of an offer.
-pub fn offered_told(answer: Offered) -> Answered
+pub fn offered_told(answer: Result<(), Refusal>) -> Answered
     ensures { OfferedTold answer result }
 {
     match answer {
-        Offered::Accepted => Answered {
+        Ok(()) => Answered {
             refusal: 0,
             place: 0,
         },
-        Offered::Refused(why) => Answered {
-            refusal: why.number,
+        Err(why) => Answered {
+            refusal: why.number(),
             place: why.place,
         },
     }
@@ -68,28 +67,20 @@ fn kind_told(kind: ReleaseKind) -> u8
 }
 
 // The answer of a release.
-pub fn number_told(answer: Released) -> Number
+pub fn number_told(answer: Result<Released, Refusal>) -> Number
     ensures { ReleasedTold answer result }
 {
     match answer {
-        Released::Number {
-            kind,
-            number,
-            note,
-            size,
-        } => {
-            let octet = kind_told(kind);
-            Number {
-                refusal: 0,
-                kind: octet,
-                number,
-                note,
-                place: 0,
-                size,
-            }
-        }
-        Released::Refused(why) => Number {
-            refusal: why.number,
+        Ok(left) => Number {
+            refusal: 0,
+            kind: kind_told(left.kind),
+            number: left.number,
+            note: left.note,
+            place: 0,
+            size: left.size,
+        },
+        Err(why) => Number {
+            refusal: why.number(),
             kind: 0,
             number: 0,
             note: 0,
@@ -100,17 +91,17 @@ pub fn number_told(answer: Released) -> Number
 }
 
 // The answer of a call that writes.
-pub fn written_told(answer: Written) -> Wrote
+pub fn written_told(answer: Result<usize, Refusal>) -> Wrote
     ensures { WrittenTold answer result }
 {
     match answer {
-        Written::Octets(size) => Wrote {
+        Ok(size) => Wrote {
             refusal: 0,
             place: 0,
             size,
         },
-        Written::Refused(why) => Wrote {
-            refusal: why.number,
+        Err(why) => Wrote {
+            refusal: why.number(),
             place: why.place,
             size: 0,
         },

@@ -4,7 +4,7 @@ ghost use Rattle.std.specs.Prelude.{◌≡◌, ltb};
 ghost use Rattle.host_answers.specs.Joiner.{flag_of, outside, FrameTold};
 
 use frame::Handed;
-use length::Refusal;
+use length::{Reason, Refusal};
 
 // Whether a joiner is tainted, 0 or 1, and the size of its open frame.
 #[repr(C)]
@@ -42,34 +42,31 @@ pub fn no_flag(tainted: u8) -> bool
 pub fn flag(tainted: bool) -> u8
     ensures { result ≡ flag_of tainted }
 {
-    if tainted {
-        return 1;
-    }
-    0
+    u8::from(tainted)
 }
 
 // The answer to a field or a lost number.
-pub fn frame_told(answer: Handed) -> HandedFrame
+pub fn frame_told(answer: Result<Handed, Refusal>) -> HandedFrame
     ensures { FrameTold answer result }
 {
     match answer {
-        Handed::Nothing => HandedFrame {
+        Ok(Handed::Nothing) => HandedFrame {
             refusal: 0,
             kind: 0,
             size: 0,
         },
-        Handed::Good(size) => HandedFrame {
+        Ok(Handed::Good(size)) => HandedFrame {
             refusal: 0,
             kind: 1,
             size,
         },
-        Handed::Bad(size) => HandedFrame {
+        Ok(Handed::Bad(size)) => HandedFrame {
             refusal: 0,
             kind: 2,
             size,
         },
-        Handed::Refused(why) => HandedFrame {
-            refusal: why.number,
+        Err(why) => HandedFrame {
+            refusal: why.number(),
             kind: 0,
             size: 0,
         },
@@ -80,11 +77,12 @@ pub fn frame_told(answer: Handed) -> HandedFrame
 pub fn no_joiner(tainted: u8, size: u16) -> AfterField
     ensures { result ≡ outside tainted size }
 {
-    let head = JoinerHead { tainted, size };
-    let frame = HandedFrame {
-        refusal: Refusal::OUTSIDE_RANGES,
-        kind: 0,
-        size: 0,
-    };
-    AfterField { head, frame }
+    AfterField {
+        head: JoinerHead { tainted, size },
+        frame: HandedFrame {
+            refusal: Reason::OutsideRanges.number(),
+            kind: 0,
+            size: 0,
+        },
+    }
 }

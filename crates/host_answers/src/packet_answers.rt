@@ -7,6 +7,7 @@ use packet::{Ending, Field, PacketKind};
 
 // What a packet reads as: 0, or the refusal's number and place; the kind, the value and how many fields it has. The first `count` fields
 // are the packet's, all others are zero (rule 6.27). With a refusal all but its number and place is 0 (rule 24.17).
+// C uses the same layout, so the fields are an array of a fixed size.
 #[repr(C)]
 #[derive(Drop)]
 pub struct PacketFound {
@@ -23,9 +24,10 @@ pub fn ending_of(repaired: bool) -> Ending
     ensures { result ≡ ending_named repaired }
 {
     if repaired {
-        return Ending::Repaired;
+        Ending::Repaired
+    } else {
+        Ending::Whole
     }
-    Ending::Whole
 }
 
 // A kind as an octet (rule 24.5).
@@ -50,7 +52,8 @@ pub fn kind_named(octet: u8) -> PacketKind
     ensures { result ≡ kind_named octet }
 {
     if octet == 0 {
-        return PacketKind::Indicator;
+        PacketKind::Indicator
+    } else {
+        PacketKind::Data
     }
-    PacketKind::Data
 }

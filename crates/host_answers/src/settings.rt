@@ -8,7 +8,8 @@ pub fn settings_of(parity: bool, count: u8, n: u8) -> Settings
     ensures { SettingsTold parity count n result }
 {
     if parity {
-        return Settings::Parity { n, m: count };
+        Settings::Parity { n, m: count }
+    } else {
+        Settings::Spares(count)
     }
-    Settings::Spares(count)
 }

@@ -1,5 +1,5 @@
-// What libtubarexi.a exports to C (`include/tubarexi.h`): the functions of `host`, each under its name and with its clauses. A library crate
-// is no archive, so they stand here once more and only call those.
+// What libtubarexi.a exports to C (`include/tubarexi.h`): the functions of `host`, each under its name and with its clauses. A library
+// crate is no archive, so they stand here once more and only call those.
 #![tactic(auto)]
 
 mod image_calls;

@@ -8,7 +8,7 @@ use mathlib.Core.List.{List}
 use lib.ListN.{length}
 use lib.Dec.{eqb}
 use native.Mathlib.Omega.{arith}
-use Rattle.length.specs.Refusals.{refusal, outside_ranges, bad_image}
+use Rattle.length.specs.Refusals.{refusal, outside_ranges, bad_image, number_of}
 use Rattle.length.specs.Answers.{Answer, done, refused, refuse}
 use Rattle.length.specs.Claims.{Octets}
 use Rattle.length.specs.declared.Refusal.{Refusal}
@@ -57,7 +57,7 @@ reads_held version text view small e =
 
 -- ---- then the ranges
 seventeen : {A : Type 0} → ◌≡◌ {A = Answer A} (refuse outside_ranges) (refuse bad_image) → ⊥
-seventeen e = let z : ◌≡◌ {A = ℕ} 17 20 = ap (λ (why : Refusal). why.number) (refused-same e) in omega arith
+seventeen e = let z : ◌≡◌ {A = ℕ} 17 20 = ap (λ (why : Refusal). number_of why.reason) (refused-same e) in omega arith
 
 only-done : (view out : View) → in_ranges_only view ≡ done out → (view ≡ out) × (in_ranges view ≡ true)
 only-done view out e = let met = cond-met (in_ranges view) outside_ranges (done view) out e in (done-same met.1, met.0)

@@ -5,6 +5,7 @@ use Rattle.octets.specs.Place.{tab, all_below}
 use Rattle.length.specs.Answers.{refuse}
 use Rattle.length.specs.Tables.{unless}
 use Rattle.length.specs.Length.{length_at, allowed, length_within, length_octets}
+use Rattle.length.specs.Refusals.{outside_ranges}
 use Rattle.datagram.specs.Read.{item_at}
 use Rattle.datagram.specs.Write.{item_octets, sum_of}
 use Rattle.datagram.specs.Inner.Heads.{items_size}
@@ -108,7 +109,7 @@ texts =
       edition-02-alone = refl;
     }
 
-writer-17 : image_to_write image_version02 broken ≡ refuse 17
+writer-17 : image_to_write image_version02 broken ≡ refuse outside_ranges
 unfolding sum_right in_ranges image_to_write unless lent_in_ranges laid all_below kept_laid zeros_past heard_laid message_laid view_in
 writer-17 = refl
 

@@ -7,7 +7,7 @@ use mathlib.Core.List.{List}
 use lib.Dec.{eqb}
 use native.Mathlib.Omega.{arith}
 use borrow.Author.Tests.{eqb-false, ne_eqb}
-use Rattle.length.specs.Refusals.{refusal, bad_image, other_edition}
+use Rattle.length.specs.Refusals.{refusal, bad_image, other_edition, number_of}
 use Rattle.length.specs.Answers.{Answer, done, refuse}
 use Rattle.length.specs.Claims.{Octets}
 use Rattle.length.specs.declared.Refusal.{Refusal}
@@ -89,13 +89,13 @@ module _ (text : List ℕ) where
     λ x. rw (x.0, ne_eqb (edition_named text) 1 x.1, ne_eqb (edition_named text) 2 x.2),
   ) where
     known : {A : Type 0} → ◌≡◌ {A = Answer A} (refuse bad_image) (refuse other_edition) → ⊥
-    known e = let z : ◌≡◌ {A = ℕ} 20 21 = ap (λ (why : Refusal). why.number) (refused-same e) in omega arith
+    known e = let z : ◌≡◌ {A = ℕ} 20 21 = ap (λ (why : Refusal). number_of why.reason) (refused-same e) in omega arith
 
     never : (version : ImageVersion) → read_image version text ≡ refuse other_edition → ⊥
     never version e =
         ⊎_elim
-        (λ w. let z : ◌≡◌ {A = ℕ} 21 20 = ap (λ (why : Refusal). why.number) w in omega arith)
-        (λ w. let z : ◌≡◌ {A = ℕ} 21 17 = ap (λ (why : Refusal). why.number) w in omega arith)
+        (λ w. let z : ◌≡◌ {A = ℕ} 21 20 = ap (λ (why : Refusal). number_of why.reason) w in omega arith)
+        (λ w. let z : ◌≡◌ {A = ℕ} 21 17 = ap (λ (why : Refusal). number_of why.reason) w in omega arith)
         (read-only version text (refusal other_edition) e)
 
     apart : (b c : Bool) → eqb (edition_named text) 1 ≡ b → eqb (edition_named text) 2 ≡ c

@@ -12,6 +12,7 @@ use Rattle.length.specs.Refusals.{bad_image}
 use Rattle.length.specs.Answers.{done}
 use Rattle.length.specs.Claims.{Octets}
 use Rattle.length.proofs.Laws.{not_done, cond-met, done-same, octets-cons, octets-none}
+use Rattle.length.specs.declared.Reason.{Reason}
 use Rattle.format.specs.Spelling.{Letter, octet, whole, wide, spelt, gap, packed, in_octets}
 use Rattle.format.specs.Reading.{Finding, found, stopped}
 use Rattle.format.specs.Format.{Format, octetwise, guarded, ◌⊳◌, made, sequence_spelt, sequence_fits, sequence_of}
@@ -54,7 +55,7 @@ module _ {A : Type 0} where
         small = λ a p fits. small a fits;
       }
 
-  pub plain-guarded : (n : ℕ) (test : A → Bool) {f : Format A} {octs : A → List ℕ} → Plain f octs → Plain (guarded n test f) octs
+  pub plain-guarded : (n : Reason) (test : A → Bool) {f : Format A} {octs : A → List ℕ} → Plain f octs → Plain (guarded n test f) octs
   plain-guarded n test x =
       record {
         lawful = lawful-guarded n test x.lawful;

@@ -2,7 +2,7 @@
 -- text reads as. Definitions only.
 use Rattle.std.specs.Prelude.{ℕ, ◌+◌, ◌/◌, ◌%◌, ◌≡◌, true, false, replicate}
 use mathlib.Core.List.{List, [], ◌∷◌, ◌++◌, map, flatten}
-use Rattle.length.specs.Refusals.{refusal}
+use Rattle.length.specs.Refusals.{refusal, numbered}
 use Rattle.length.specs.Answers.{Answer, done, refuse}
 use Rattle.format.specs.Reading.{stopped}
 use Rattle.format.specs.Format.{sequence_of}
@@ -119,75 +119,75 @@ pub record Lines : Type 0 where
   -- rule 20.1: all sixteen digits are read; the characters before and behind them are no digits
   pub digits : from_base_on (characters "02010102080123456789ABCDEF0000") ≡ done sixteen
   pub no-digits : map from_base_on (map (λ (c : ℕ). 0x30 ∷ c ∷ characters "000000000000") (0x2F ∷ 0x3A ∷ 0x40 ∷ 0x47 ∷ []))
-      ≡ replicate 4 (refuse 20)
+      ≡ replicate 4 (refuse (numbered 20))
   -- rules 20.1 and 20.14: lower case, a carriage return, half an octet, an empty line
-  pub lower-case : from_base_on (characters "0201010202aaBB020201CC00") ≡ refuse 20
-  pub carriage-return : from_base_on (characters "00000000000000\r") ≡ refuse 20
-  pub odd : from_base_on (characters "000000000000000") ≡ refuse 20
-  pub empty : from_base_on [] ≡ refuse 20
+  pub lower-case : from_base_on (characters "0201010202aaBB020201CC00") ≡ refuse (numbered 20)
+  pub carriage-return : from_base_on (characters "00000000000000\r") ≡ refuse (numbered 20)
+  pub odd : from_base_on (characters "000000000000000") ≡ refuse (numbered 20)
+  pub empty : from_base_on [] ≡ refuse (numbered 20)
   -- rule 20.15: octets missing or left over in a line
   pub unknown : from_base_on (characters "00000000000000") ≡ done bare
-  pub missing : from_base_on (characters "000000000000") ≡ refuse 20
-  pub left_over : from_base_on (characters "0000000000000000") ≡ refuse 20
+  pub missing : from_base_on (characters "000000000000") ≡ refuse (numbered 20)
+  pub left_over : from_base_on (characters "0000000000000000") ≡ refuse (numbered 20)
   -- rule 20.13: a state over 4, accepted over 01, n over 8, m over 4
-  pub state-over : from_base_on (characters "05000000000000") ≡ refuse 20
-  pub accepted-over : from_base_on (characters "00020000000000") ≡ refuse 20
+  pub state-over : from_base_on (characters "05000000000000") ≡ refuse (numbered 20)
+  pub accepted-over : from_base_on (characters "00020000000000") ≡ refuse (numbered 20)
   pub n-last : from_base_on (characters "0101000001AA080100") ≡ done (with_messages 8 ([] ∷ []))
-  pub n-over : from_base_on (characters "0101000001AA090100") ≡ refuse 20
+  pub n-over : from_base_on (characters "0101000001AA090100") ≡ refuse (numbered 20)
   pub m-last : from_base_on (characters "0101000001AA080400000000") ≡ done (with_messages 8 ([] ∷ [] ∷ [] ∷ [] ∷ []))
-  pub m-over : from_base_on (characters "0101000001AA08050000000000") ≡ refuse 20
+  pub m-over : from_base_on (characters "0101000001AA08050000000000") ≡ refuse (numbered 20)
   -- rule 20.13: a packet or a message over the limit, here one octet
   pub at-limit : read_line (number_line 1 true) (characters "0101000001AA010100") ≡ done (with_messages 1 ([] ∷ []))
-  pub packet-over : read_line (number_line 1 true) (characters "0101000002AABB010100") ≡ refuse 20
-  pub message-over : read_line (number_line 1 true) (characters "0101000001AA010102BBCC") ≡ refuse 20
+  pub packet-over : read_line (number_line 1 true) (characters "0101000002AABB010100") ≡ refuse (numbered 20)
+  pub message-over : read_line (number_line 1 true) (characters "0101000001AA010102BBCC") ≡ refuse (numbered 20)
   -- rules 20.9 and 20.16: a packet of 161 octets is read in version 02 only
-  pub old-over : read_line (number_line image_version01.limit false) (with_packet 161) ≡ refuse 20
+  pub old-over : read_line (number_line image_version01.limit false) (with_packet 161) ≡ refuse (numbered 20)
   pub new-reads : read_line (number_line image_version02.limit false) (with_packet 161) ≡ done (unheard 161)
   -- rules 20.6 and 20.15: a length in a form that is not allowed
-  pub length-c0 : from_base_on (characters "01010000C001AA0000") ≡ refuse 20
-  pub length_two : from_base_on (characters "010100008001AA0000") ≡ refuse 20
+  pub length-c0 : from_base_on (characters "01010000C001AA0000") ≡ refuse (numbered 20)
+  pub length_two : from_base_on (characters "010100008001AA0000") ≡ refuse (numbered 20)
   -- rule 20.17: n without m and m without n are not misshapen lines; they are outside the ranges
   pub n-alone : from_base_on (characters "0101000001AA0100") ≡ done (with_messages 1 [])
   pub m-alone : from_base_on (characters "0101000001AA000100") ≡ done (with_messages 0 ([] ∷ []))
   -- rule 20.7: accepted, n or m is not 00 before the base
-  pub accepted-before : before_base (characters "0101000001AA0000") ≡ refuse 20
-  pub n-before : before_base (characters "0100000001AA0100") ≡ refuse 20
-  pub m-before : before_base (characters "0100000001AA000100") ≡ refuse 20
+  pub accepted-before : before_base (characters "0101000001AA0000") ≡ refuse (numbered 20)
+  pub n-before : before_base (characters "0100000001AA0100") ≡ refuse (numbered 20)
+  pub m-before : before_base (characters "0100000001AA000100") ≡ refuse (numbered 20)
   -- rule 20.9: each version reads its own octet only
-  pub edition-02 : read_line (first_image_line image_version01) (characters "02010200000001000000020000000304050607") ≡ refuse 20
-  pub edition-01 : read_line (first_image_line image_version02) (characters "01010200000001000000020000000304050607") ≡ refuse 20
+  pub edition-02 : read_line (first_image_line image_version01) (characters "02010200000001000000020000000304050607") ≡ refuse (numbered 20)
+  pub edition-01 : read_line (first_image_line image_version02) (characters "01010200000001000000020000000304050607") ≡ refuse (numbered 20)
 
 -- ---- what a text reads as
 pub record Texts : Type 0 where
   -- rules 20.1 and 20.14: a line feed ends each line
-  pub no-feed : line_front (number_line 256 true) (characters "00000000000000") ≡ stopped (refusal 20)
+  pub no-feed : line_front (number_line 256 true) (characters "00000000000000") ≡ stopped (refusal (numbered 20))
   -- rule 20.13: a line missing or extra, where two are due; an empty line is one too many
   pub two : read_whole (sequence_of 2 (line (octet_to 9))) (characters "01\n02\n") ≡ done (1 ∷ 2 ∷ [])
-  pub missing : read_whole (sequence_of 2 (line (octet_to 9))) (characters "01\n") ≡ refuse 20
-  pub extra : read_whole (sequence_of 2 (line (octet_to 9))) (characters "01\n02\n03\n") ≡ refuse 20
-  pub empty-line : read_whole (sequence_of 2 (line (octet_to 9))) (characters "01\n02\n\n") ≡ refuse 20
-  pub nothing : read_text [] ≡ refuse 20
+  pub missing : read_whole (sequence_of 2 (line (octet_to 9))) (characters "01\n") ≡ refuse (numbered 20)
+  pub extra : read_whole (sequence_of 2 (line (octet_to 9))) (characters "01\n02\n03\n") ≡ refuse (numbered 20)
+  pub empty-line : read_whole (sequence_of 2 (line (octet_to 9))) (characters "01\n02\n\n") ≡ refuse (numbered 20)
+  pub nothing : read_text [] ≡ refuse (numbered 20)
   -- rules 20.7 and 20.18: the first line before the base is accepted; the base is 1 and the counts sum to 0, which alone is 17
   pub accepted-before : read_text
       (characters "02000100000000000000000000000000000000\n04010000000000\n"
       ++ (flatten (replicate 31 (characters "04000000000000\n")) ++ flatten (replicate 32 (characters "00000000000000\n"))))
-      ≡ refuse 20
+      ≡ refuse (numbered 20)
   -- rules 13.1 and 20.18: 17 if the base is 1 and the counts sum to 0
-  pub base-1 : read_text (fresh_from (characters "02000100000000000000000000000000000000\n")) ≡ refuse 17
+  pub base-1 : read_text (fresh_from (characters "02000100000000000000000000000000000000\n")) ≡ refuse (numbered 17)
   -- rule 20.18: 20 comes before 17. The base is 1, the counts sum to 0, and no line follows
-  pub first_alone : read_text (characters "01000100000000000000000000000000000000\n") ≡ refuse 20
+  pub first_alone : read_text (characters "01000100000000000000000000000000000000\n") ≡ refuse (numbered 20)
   -- rule 20.12: which texts begin with two upper-case digits, and the octet that these name
   pub named : map names_edition (characters "02" ∷ characters "FF" ∷ characters "0a" ∷ characters "a0" ∷ characters "0" ∷ [] ∷ [])
       ≡ true ∷ true ∷ false ∷ false ∷ false ∷ false ∷ []
   pub named-octets : map edition_named (characters "02" ∷ characters "12" ∷ characters "FF" ∷ []) ≡ 0x02 ∷ 0x12 ∷ 0xFF ∷ []
   -- rule 20.12: two upper-case digits that name another version are 21, whatever follows
-  pub edition-03 : read_text (characters "03") ≡ refuse 21
-  pub edition-00 : read_text (characters "00\r") ≡ refuse 21
-  pub edition-ff : read_text (characters "FF") ≡ refuse 21
-  pub edition-12 : read_text (characters "12") ≡ refuse 21
-  pub edition-0a : read_text (characters "0a") ≡ refuse 20
-  pub one-digit : read_text (characters "0") ≡ refuse 20
-  pub edition-02-alone : read_text (characters "02") ≡ refuse 20
+  pub edition-03 : read_text (characters "03") ≡ refuse (numbered 21)
+  pub edition-00 : read_text (characters "00\r") ≡ refuse (numbered 21)
+  pub edition-ff : read_text (characters "FF") ≡ refuse (numbered 21)
+  pub edition-12 : read_text (characters "12") ≡ refuse (numbered 21)
+  pub edition-0a : read_text (characters "0a") ≡ refuse (numbered 20)
+  pub one-digit : read_text (characters "0") ≡ refuse (numbered 20)
+  pub edition-02-alone : read_text (characters "02") ≡ refuse (numbered 20)
 
 -- rules 13.2 and 20.18: 17 for counts whose sum passes 32 bits, in a session that is fresh otherwise
 abbrev pub wrapped : View
@@ -208,5 +208,5 @@ pub record Cases : Type 0 where
   pub written : Written
   pub lines : Lines
   pub texts : Texts
-  pub past-32-bits : in_ranges_only wrapped ≡ refuse 17
-  pub writer-17 : image_to_write image_version02 broken ≡ refuse 17
+  pub past-32-bits : in_ranges_only wrapped ≡ refuse (numbered 17)
+  pub writer-17 : image_to_write image_version02 broken ≡ refuse (numbered 17)

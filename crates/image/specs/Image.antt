@@ -7,6 +7,7 @@ use Rattle.length.specs.Refusals.{outside_ranges, bad_image, other_edition}
 use Rattle.length.specs.Answers.{Answer, done, refuse, ◌>>=◌}
 use Rattle.length.specs.Tables.{when, unless}
 use Rattle.length.specs.Claims.{Octets}
+use Rattle.length.specs.declared.Reason.{Reason}
 use Rattle.datagram.specs.Sizes.{covered_limit, messages_limit}
 use Rattle.datagram.specs.Write.{sum_of}
 use Rattle.datagram.specs.Inner.Heads.{item_size, items_size}
@@ -57,7 +58,7 @@ unfoldable pub read_text : List ℕ → Answer View
 read_text text = cond (names_edition text) (read_by (edition_named text) text) (refuse bad_image)
 
 -- what the writer writes of a session: 17 if it is outside its ranges (rule 20.19)
-abbrev pub image_rows : Lent → List (Option ℕ)
+abbrev pub image_rows : Lent → List (Option Reason)
 image_rows session = when (not (lent_in_ranges session)) outside_ranges ∷ []
 
 unfoldable pub image_to_write : ImageVersion → Lent → Answer (List ℕ)

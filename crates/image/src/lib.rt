@@ -14,22 +14,17 @@ use session_held::Session;
 #[derive(Drop)]
 pub struct Image {}
 
-// Whether a session was restored, or why not.
-#[derive(Drop)]
-pub enum Restore {
-    Done,
-    Refused(Refusal),
-}
-
-// What a text restores: the session whose image it is. A refused text restores nothing (rule 20.18): then `session` is a fresh one.
+// What a text restores: the session whose image it is, or why it is refused. A refused text restores nothing (rule 20.18): then `session`
+// is a fresh one.
 #[derive(Drop)]
 pub struct Restored {
     pub session: Session,
-    pub answer: Restore,
+    pub answer: Result<(), Refusal>,
 }
 
 impl Image {
     // The version that is written, and the older one that is read too, with its limit for packets and messages (rules 20.8 and 20.9).
+    // They are octets of the text.
     pub const EDITION: u8 = 2;
 
     pub const OLD_EDITION: u8 = 1;

@@ -1,6 +1,6 @@
 -- The whole of an image: it is read exactly if its first line, the lines before the base and those from it on are, up to the end of the
 -- text; and one law for each answer of `read_core`. Assumes nothing.
-use Rattle.std.proofs.Common.{◌≡◌, ℕ, ◌+◌, ◌*◌, ◌<◌, ◌≤◌, Bool, true, false, eqb, List, [], length, sym, refl, ap, ◌∙◌, arith}
+use Rattle.std.proofs.Common.{◌≡◌, ℕ, ◌+◌, ◌*◌, ◌<◌, ◌≤◌, Bool, true, false, eqb, List, [], Option, Some, None, length, sym, refl, ap, ◌∙◌, arith}
 use Rattle.length.specs.Refusals.{bad_image}
 use Rattle.length.specs.Answers.{done, refuse}
 use Rattle.format.specs.Reading.{Finding, found, stopped}
@@ -9,12 +9,8 @@ use Rattle.session.specs.View.{View}
 use Rattle.image.specs.Parts.{up_to, read_whole, line_front, line}
 use Rattle.image.specs.Layout as layout
 use Rattle.image.specs.Layout.{ImageVersion, first_image_line, view_from, image}
-use Rattle.image_reader.specs.Laying.{Lengths}
-use Rattle.image_reader.specs.Whole.{FirstLineTold, NoFirst, first_told, number_lines, LinesLaid, LinesTold, Cleared, CoreTold}
+use Rattle.image_reader.specs.Whole.{FirstLineTold, first_told, number_lines, LinesLaid, LinesTold, Cleared, CoreTold}
 use Rattle.image_reader.specs.declared.whole.First.{First}
-use Rattle.image_reader.specs.declared.whole.Reached.{Reached}
-use Rattle.image_reader.specs.declared.whole.Reached.TheVariants as reached
-use Rattle.image_reader.proofs.NumberSteps.{contrary}
 use Rattle.image_reader.proofs.Edges.{stepped, then_found, whole-done, done-whole}
 use Rattle.image_reader.proofs.Fronts.{front-inside}
 use Rattle.image_reader.proofs.Turning.{line_at, line-back}
@@ -100,94 +96,94 @@ same-found : {A : Type 0} {x : Finding A} {a b : A} {p q : ℕ} → x ≡ found 
 same-found e d = (cc, cc)
 
 -- the first line ends within the text
-pub head-inside : {octet : ℕ} {text : List ℕ} {head : First} → FirstLineTold octet text head → head.read ≡ true → head.end ≤ length text
-head-inside {octet} {text} {head} told so =
-    front-inside (first_image_line (record { octet = octet; limit = 0 })) text (first_told head) head.end (told.right so 0)
+pub head-inside : {octet : ℕ} {text : List ℕ} {r : Option First} {head : First} → FirstLineTold octet text r → r ≡ Some head
+    → head.end ≤ length text
+head-inside {octet} {text} {r} {head} told so =
+    let read = rw so at told.answer in
+    front-inside (first_image_line (record { octet = octet; limit = 0 })) text (first_told head) head.end (read 0)
 
 module _ {octet limit : ℕ} {text : List ℕ} where
-  none_told : {t o g : List ℕ} {r : First} → NoFirst r
-      → (ImageFound (record { octet = octet; limit = limit }) text → ⊥) → CoreTold octet limit text t o g r
-  none_told made never =
-      record {
-        right = λ so. contrary so made.refused;
-        laid = λ so. contrary so made.refused;
-        none = λ so.
+  none_told : {t o g : List ℕ} → (ImageFound (record { octet = octet; limit = limit }) text → ⊥) → {a : Option First} → a ≡ None → CoreTold octet limit text t o g a
+  none_told never is =
+      rw is
+      (record {
+        answer =
             never_done (image (record { octet = octet; limit = limit })) text
             (λ view e. never (image-found (record { octet = octet; limit = limit }) text view e));
-      }
+      })
 
-  module _ {head : First} (first-told : FirstLineTold octet text head) where
-    pub core-no-first : {t o g : List ℕ} {r : First} → head.read ≡ false → NoFirst r → CoreTold octet limit text t o g r
-    core-no-first so made = none_told made (λ x. first-told.none so limit x.f x.p x.head)
+  module _ {first : Option First} (first-told : FirstLineTold octet text first) where
+    pub core-no-first : {t o g : List ℕ} {a : Option First} → first ≡ None → a ≡ None → CoreTold octet limit text t o g a
+    core-no-first so =
+        let never = rw so at first-told.answer in
+        none_told (λ x. never limit x.f x.p x.head)
 
-    module _ (so : head.read ≡ true) where
+    module _ {head : First} (so : first ≡ Some head) where
       head-same : (x : ImageFound (record { octet = octet; limit = limit }) text) → x.p ≡ head.end
-      head-same x = (same-found x.head (first-told.right so limit)).1
+      head-same x =
+          let read = rw so at first-told.answer in
+          (same-found x.head (read limit)).1
 
-      module _ {t o g mid_t mid_o mid_g : List ℕ} {q : Reached}
+      module _ {t o g mid_t mid_o mid_g : List ℕ} {q : Option ℕ}
           (before-told : LinesTold limit false head.base text head.end t o g mid_t mid_o mid_g q) where
-        pub core-no-before : {new_t new_o new_g : List ℕ} {r : First} → q ≡ reached.Misshapen → NoFirst r
-            → CoreTold octet limit text new_t new_o new_g r
-        core-no-before is made =
-            none_told made
+        pub core-no-before : {new_t new_o new_g : List ℕ} {a : Option First} → q ≡ None → a ≡ None
+            → CoreTold octet limit text new_t new_o new_g a
+        core-no-before is =
+            none_told
             (λ x.
             let never = rw is at before-told.answer in
             never x.b x.q
             (ap (λ (k : ℕ). (number_lines limit false).read text 0 (8 * k)) (sym (head-same x)) ∙ x.before))
 
-        module _ {middle : ℕ} (is : q ≡ reached.At middle) where
+        module _ {middle : ℕ} (is : q ≡ Some middle) where
           before-laid : LinesLaid limit false head.base text head.end t o g mid_t mid_o mid_g middle
           before-laid = rw is at before-told.answer
-
-          pub middle-inside : middle ≤ length text
-          middle-inside = before-laid.inside
-
-          pub middle-sized : Lengths mid_t mid_o mid_g
-          middle-sized = before-laid.sized
 
           before_same : (x : ImageFound (record { octet = octet; limit = limit }) text) → x.q ≡ 8 * middle
           before_same x =
               (same-found (ap (λ (k : ℕ). (number_lines limit false).read text 0 (8 * k)) (sym (head-same x)) ∙ x.before)
               before-laid.read).1
 
-          module _ {new_t new_o new_g : List ℕ} {y : Reached}
+          module _ {new_t new_o new_g : List ℕ} {y : Option ℕ}
               (ahead-told : LinesTold limit true head.base text middle mid_t mid_o mid_g new_t new_o new_g y) where
-            pub core-no-ahead : {r : First} → y ≡ reached.Misshapen → NoFirst r → CoreTold octet limit text new_t new_o new_g r
-            core-no-ahead ends made =
-                none_told made
+            pub core-no-ahead : {a : Option First} → y ≡ None → a ≡ None → CoreTold octet limit text new_t new_o new_g a
+            core-no-ahead ends =
+                none_told
                 (λ x.
                 let never = rw ends at ahead-told.answer in
                 never x.a (8 * length text)
                 (ap (λ (k : ℕ). (number_lines limit true).read text 0 k) (sym (before_same x)) ∙ x.ahead))
 
-            module _ {end : ℕ} (ends : y ≡ reached.At end) where
+            module _ {end : ℕ} (ends : y ≡ Some end) where
               ahead-laid : LinesLaid limit true head.base text middle mid_t mid_o mid_g new_t new_o new_g end
               ahead-laid = rw ends at ahead-told.answer
 
               -- octets left over
-              pub core-left : {r : First} → end < length text → NoFirst r → CoreTold octet limit text new_t new_o new_g r
-              core-left more made =
-                  none_told made
+              pub core-left : end < length text → CoreTold octet limit text new_t new_o new_g None
+              core-left more =
+                  none_told
                   (λ x.
                   let same = (same-found (ap (λ (k : ℕ). (number_lines limit true).read text 0 k) (sym (before_same x)) ∙ x.ahead)
                   ahead-laid.read).1 in
                   omega arith)
+                  refl
 
-              pub core-read : length text ≤ end → Cleared t o g → CoreTold octet limit text new_t new_o new_g head
+              pub core-read : length text ≤ end → Cleared t o g → CoreTold octet limit text new_t new_o new_g (Some head)
               core-read all clear =
+                  let read = rw so at first-told.answer in
                   let is-end : end ≡ length text = omega (arith, ahead-laid.inside) in
                   let low = before-laid.lays [] refl (cleared-filled clear head.base) in
                   let high = ahead-laid.lays before-laid.numbers before-laid.many low in
                   record {
-                    right = λ _.
-                        image-reads (record { octet = octet; limit = limit }) text (first_told head) head.end before-laid.numbers
-                        middle ahead-laid.numbers (first-told.right so limit) before-laid.read
-                        (ahead-laid.read ∙ ap (λ (k : ℕ). found ahead-laid.numbers (8 * k)) is-end)
-                        ∙ ap (λ (v : View). done v)
-                        (filled-view head.counts before-laid.numbers ahead-laid.numbers high before-laid.many
-                        ahead-laid.many);
-                    laid = λ _. filled-laid high;
-                    none = λ never. contrary so never;
+                    answer =
+                        record {
+                          is =
+                              image-reads (record { octet = octet; limit = limit }) text (first_told head) head.end
+                              before-laid.numbers middle ahead-laid.numbers (read limit) before-laid.read
+                              (ahead-laid.read ∙ ap (λ (k : ℕ). found ahead-laid.numbers (8 * k)) is-end)
+                              ∙ ap (λ (v : View). done v)
+                              (filled-view head.counts before-laid.numbers ahead-laid.numbers high before-laid.many
+                              ahead-laid.many);
+                          laid = filled-laid high;
+                        };
                   }
-
-pub ruleset cores = (core-no-first, core-no-before, core-no-ahead, core-left, core-read)

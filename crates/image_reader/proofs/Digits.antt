@@ -1,11 +1,11 @@
 -- Upper-case digits, as the code tells them, and the run of them at the front of a text. Assumes nothing.
-use Rattle.std.proofs.Common.{◌≡◌, ℕ, ◌+◌, ◌-◌, ◌%◌, ◌<◌, ◌≤◌, Bool, true, false, cond, not, ◌&&◌, ◌||◌, ltb, List, length, get_or, sym, refl, ap, ◌∙◌, ap₂, ⊎_elim, arith, below_more}
+use Rattle.std.proofs.Common.{◌≡◌, ℕ, ◌+◌, ◌-◌, ◌%◌, ◌<◌, ◌≤◌, Bool, true, false, cond, not, ◌&&◌, ◌||◌, ltb, List, length, get_or, sym, refl, ◌∙◌, ap₂, ⊎_elim, arith}
 use Rattle.octets.specs.Place.{all_below}
 use Rattle.octets.proofs.Laws.{all_below-at, all_below-more, below_or_not}
 use Rattle.line.specs.Hex.{digit_of, no_digit}
 use Rattle.line.specs.FeedPromise.{looked_at}
 use Rattle.image.specs.Parts.{upper_digit}
-use Rattle.image_reader.specs.Text.{upper_at, UpperTo, UpperRun}
+use Rattle.image_reader.specs.Text.{upper_at, UpperTo}
 
 -- ---- one character: what is so of each of 256 octets is computed
 agree : Bool → Bool → Bool
@@ -59,20 +59,9 @@ pub near-turn : {s : List ℕ} {at : ℕ} {all one : Bool} {j : ℕ} → Near s 
 near-turn {s} {at} {all} {one} {j} n more e =
     record { so = ap₂ (λ (a b : Bool). a && b) n.so e ∙ sym (all_below-more j (upper_at s at)); few = omega arith }
 
-pub near-done : {s : List ℕ} {at : ℕ} {all : Bool} {j : ℕ} → Near s at all j → looked_at ≤ j → all ≡ all_below looked_at (upper_at s at)
-near-done {s} {at} {all} {j} n end = n.so ∙ ap (λ (k : ℕ). all_below k (upper_at s at)) (omega (arith, n.few))
-
 -- ---- the run
 pub upper-start : (s : List ℕ) → UpperTo s 0
 upper-start s = record { digits = λ k below. absurd (omega arith); inside = omega arith }
-
-pub upper-turn : {s : List ℕ} {at : ℕ} {one : Bool} → UpperTo s at → at < length s → one ≡ upper_digit (get_or s at 0) → one ≡ true
-    → UpperTo s (at + 1)
-upper-turn {s} {at} {one} u more told so =
-    record {
-      digits = below_more (λ (k : ℕ). upper_digit (get_or s k 0) ≡ true) at u.digits (sym told ∙ so);
-      inside = omega arith;
-    }
 
 far : (s : List ℕ) (at : ℕ) → all_below looked_at (upper_at s at) ≡ true → (k : ℕ) → k < at + looked_at → at ≤ k
     → upper_digit (get_or s k 0) ≡ true
@@ -88,11 +77,3 @@ upper-far {s} {at} {all} u room told so =
           ⊎_elim (λ before. u.digits k before) (λ past. far s at (sym told ∙ so) k below past) (below_or_not k at);
       inside = omega (arith, u.inside);
     }
-
-pub run-stop : {s : List ℕ} {at : ℕ} {one : Bool} → UpperTo s at → one ≡ upper_digit (get_or s at 0) → one ≡ false → UpperRun s at
-run-stop u told so = record { to = u; end = λ inside. sym told ∙ so }
-
-pub run_end : {s : List ℕ} {at : ℕ} → UpperTo s at → length s ≤ at → UpperRun s at
-run_end u past = record { to = u; end = λ inside. absurd (omega arith) }
-
-pub ruleset runs = (upper-start, upper-turn, upper-far, run-stop, run_end)

@@ -1,6 +1,6 @@
 -- The first line of an image by its octets is what the layout reads of them, and back; and one law for each answer of `first_in`. Assumes
 -- nothing.
-use Rattle.std.proofs.Common.{◌≡◌, ℕ, ◌+◌, ◌-◌, ◌*◌, true, eqb, List, length, get_or, drop, sym, refl, ap, ◌∙◌, arith, get_or-drop, eq-eqb, eqb-true}
+use Rattle.std.proofs.Common.{◌≡◌, ℕ, ◌+◌, ◌*◌, eqb, List, Some, None, length, get_or, drop, sym, refl, ap, ◌∙◌, arith, get_or-drop, eq-eqb, eqb-true}
 use Rattle.length.specs.Answers.{done}
 use Rattle.format.specs.Reading.{found}
 use Rattle.format.specs.Format.{Format, ◌⊳◌}
@@ -8,10 +8,8 @@ use Rattle.image.specs.Parts.{read_whole, high_first, number, octet_is}
 use Rattle.image.specs.Layout as layout
 use Rattle.image.specs.Layout.{ImageVersion, first_from, first_image_line}
 use Rattle.image.specs.Image.{first_image_size}
-use Rattle.image_reader.specs.Whole.{FirstIs, FirstImageTold, NoFirst}
-use Rattle.image_reader.specs.declared.whole.First.{First}
+use Rattle.image_reader.specs.Whole.{FirstIs, FirstImageTold}
 use Rattle.image_reader.proofs.Edges.{stepped, then_found, whole-done, done-whole, number_at, number-found, octet-at, octet-found}
-use Rattle.image_reader.proofs.NumberSteps.{contrary}
 use Rattle.image_reader.proofs.NumberLine.{two-octets}
 
 -- four octets, the high one first, by two and two
@@ -107,44 +105,34 @@ first_back edition s f e =
 
 -- ---- the answers of first_in
 module _ {octet : ℕ} {s : List ℕ} {end : ℕ} where
-  no-first : {r : First} → NoFirst r → ((f : layout.FirstImageLine) → FirstIs octet s f → ⊥) → FirstImageTold octet s end r
-  no-first made never =
-      record {
-        right = λ so. contrary so made.refused;
-        after = λ so. contrary so made.refused;
-        none = λ so f is. never f is;
-      }
+  pub first-size : (length s ≡ first_image_size → ⊥) → FirstImageTold octet s end None
+  first-size other = record { answer = λ f is. other is.long }
 
-  pub first-size : {r : First} → NoFirst r → (length s ≡ first_image_size → ⊥) → FirstImageTold octet s end r
-  first-size made other = no-first made (λ f is. other is.long)
-
-  pub first-edition : {r : First} → NoFirst r → (get_or s 0 0 ≡ octet → ⊥) → FirstImageTold octet s end r
-  first-edition made other = no-first made (λ f is. other is.edition)
+  pub first-edition : (get_or s 0 0 ≡ octet → ⊥) → FirstImageTold octet s end None
+  first-edition other = record { answer = λ f is. other is.edition }
 
   pub first_read : {base received spare repaired lost : ℕ} → length s ≡ first_image_size → get_or s 0 0 ≡ octet
       → base ≡ get_or s 1 0 * 256 + get_or s 2 0 → received ≡ high_first 4 (drop 3 s) → spare ≡ high_first 4 (drop 7 s)
       → repaired ≡ high_first 4 (drop 11 s) → lost ≡ high_first 4 (drop 15 s)
       → FirstImageTold octet s end
-      (record {
-        read = true;
-        base = base;
-        counts = record { received = received; spare = spare; repaired = repaired; lost = lost };
-        end = end;
-      })
+      (Some
+      (record { base = base; counts = record { received = received; spare = spare; repaired = repaired; lost = lost }; end = end }))
   first_read long edition base received spare repaired lost =
       record {
-        right = λ _.
+        answer =
             record {
-              long = long;
-              edition = edition;
-              base = base ∙ sym (two-octets s 1 2 refl);
-              received = received;
-              spare = spare;
-              repaired = repaired;
-              lost = lost;
+              is =
+                  record {
+                    long = long;
+                    edition = edition;
+                    base = base ∙ sym (two-octets s 1 2 refl);
+                    received = received;
+                    spare = spare;
+                    repaired = repaired;
+                    lost = lost;
+                  };
+              after = refl;
             };
-        after = λ _. refl;
-        none = λ never. contrary refl never;
       }
 
 pub ruleset firsts = (first-size, first-edition, first_read)

@@ -1,6 +1,6 @@
 -- The line at the front of a text, read by its format: what was taken from the text, and what the line's octets read as, give what is
 -- found there. And the laws of the answers of `first_line`. Assumes nothing.
-use Rattle.std.proofs.Common.{◌≡◌, ℕ, zero, suc, ◌+◌, ◌-◌, ◌*◌, ◌<◌, ◌≤◌, Bool, true, false, cond, ltb, List, [], ◌∷◌, length, take, drop, sym, refl, ap, ◌∙◌, ap₂, mul-le-mul_right, suc-mul, arith, take_at, ltb-true, lt-ltb}
+use Rattle.std.proofs.Common.{◌≡◌, ℕ, zero, suc, ◌+◌, ◌*◌, ◌<◌, ◌≤◌, Bool, true, false, cond, ltb, List, [], ◌∷◌, Option, Some, None, length, take, drop, sym, refl, ap, ◌∙◌, ap₂, mul-le-mul_right, suc-mul, arith, take_at, ltb-true, lt-ltb}
 use Rattle.length.specs.Refusals.{refusal, bad_image}
 use Rattle.length.specs.Answers.{Answer, done, refused}
 use Rattle.length.proofs.Laws.{bind_done, done-same, cond-met, sizes-read}
@@ -12,17 +12,14 @@ use Rattle.format.specs.Reading.{found, stopped}
 use Rattle.format.specs.Format.{Format}
 use Rattle.line.specs.Hex.{octets_in}
 use Rattle.image.specs.Parts.{read_whole, taking, line_at, upper_pairs, read_line, line_front}
-use Rattle.image.specs.Layout as layout
 use Rattle.image.specs.Layout.{first_image_line}
 use Rattle.image.specs.Image.{first_image_size, longest_item, number_line_limit}
 use Rattle.image_reader.specs.Text.{LineTaken}
 use Rattle.image_reader.specs.Number.{NumberIs, LineParts}
-use Rattle.image_reader.specs.Whole.{FirstImageTold, FirstLineTold, NoFirst, first_told}
-use Rattle.image_reader.specs.declared.text.Taken.{Taken}
-use Rattle.image_reader.specs.declared.text.Taken.TheVariants as taken
+use Rattle.image_reader.specs.Whole.{FirstImageTold, FirstLineTold, first_told}
 use Rattle.image_reader.specs.declared.whole.First.{First}
 use Rattle.image_reader.proofs.Taking.{taken-octets, taken_none}
-use Rattle.image_reader.proofs.NumberSteps.{contrary, base-most}
+use Rattle.image_reader.proofs.NumberSteps.{base-most}
 use Rattle.image_reader.proofs.FirstLine.{first_reads, first_back}
 
 -- ---- the front
@@ -58,54 +55,54 @@ module _ {A : Type 0} (f : Format A) (text : List ℕ) (a : A) where
   front-inside n e = let x = front-back n e in omega (arith, x.ended, x.after)
 
 -- what was taken from the text
-module _ {text old new : List ℕ} {r : Taken} (t : LineTaken text old new r) where
-  pub taken-fits : {count next : ℕ} → r ≡ taken.Octets count next → count ≤ length old
-  taken-fits is = (taken-octets t is).fits
-
-  pub taken-cut : {count next : ℕ} → r ≡ taken.Octets count next → take count new ≡ octets_in (line_at text)
+module _ {text old new : List ℕ} {r : Option (ℕ × ℕ)} (t : LineTaken text old new r) where
+  pub taken-cut : {count next : ℕ} → r ≡ Some (count, next) → take count new ≡ octets_in (line_at text)
   taken-cut {count} is =
       let x = taken-octets t is in
       ap₂ (λ (n : ℕ) (l : List ℕ). take n l) x.counted x.lent
       ∙ take_at (octets_in (line_at text)) (drop (length (octets_in (line_at text))) old) (length (octets_in (line_at text))) refl
 
   module _ {A : Type 0} (f : Format A) where
-    pub taken-found : {count next : ℕ} → r ≡ taken.Octets count next → (a : A) → read_whole f (take count new) ≡ done a
+    pub taken-found : {count next : ℕ} → r ≡ Some (count, next) → (a : A) → read_whole f (take count new) ≡ done a
         → line_front f text ≡ found a next
     taken-found {count} {next} is a e =
         let x = taken-octets t is in
         front-found f text a x.ended x.pairs (rw (taken-cut is) at e) ∙ ap (found a) (sym x.after)
 
-    pub taken_back : {count next : ℕ} → r ≡ taken.Octets count next → (a : A) (n : ℕ) → line_front f text ≡ found a n
+    pub taken_back : {count next : ℕ} → r ≡ Some (count, next) → (a : A) (n : ℕ) → line_front f text ≡ found a n
         → read_whole f (take count new) ≡ done a
     taken_back is a n e = rw (taken-cut is) (front-back f text a n e).read
 
     -- nothing was taken: no line is found whose octets have room
-    pub taken-never : r ≡ taken.Misshapen → (a : A) (n : ℕ) → line_front f text ≡ found a n
+    pub taken-never : r ≡ None → (a : A) (n : ℕ) → line_front f text ≡ found a n
         → length (octets_in (line_at text)) ≤ length old → ⊥
     taken-never is a n e room = let x = front-back f text a n e in taken_none t is x.ended x.pairs room
 
 -- ---- the first line
-module _ {octet : ℕ} {text old new : List ℕ} {r : Taken} (t : LineTaken text old new r) where
-  pub first-none : {q : First} → r ≡ taken.Misshapen → length old ≡ first_image_size → NoFirst q → FirstLineTold octet text q
-  first-none is long made =
-      record {
-        right = λ so. contrary so made.refused;
-        none = λ so limit f n e.
+module _ {octet : ℕ} {text old new : List ℕ} {r : Option (ℕ × ℕ)} (t : LineTaken text old new r) where
+  pub first-none : {q : Option First} → r ≡ None → length old ≡ first_image_size → q ≡ None → FirstLineTold octet text q
+  first-none is long none =
+      rw none
+      (record {
+        answer = λ limit f n e.
             let back = front-back (first_image_line (record { octet = octet; limit = limit })) text f n e in
             let all = first_back (record { octet = octet; limit = limit }) (octets_in (line_at text)) f back.read in
             taken-never t (first_image_line (record { octet = octet; limit = limit })) is f n e (omega (arith, all.long));
-      }
+      })
 
-  pub first-told : {count next : ℕ} {q : First} → r ≡ taken.Octets count next → FirstImageTold octet (take count new) next q
+  pub first-told : {count next : ℕ} {q : Option First} → r ≡ Some (count, next) → FirstImageTold octet (take count new) next q
       → FirstLineTold octet text q
-  first-told {count} {next} {q} is told =
+  first-told {count = count} {next = next} {q = Some q} is told =
       record {
-        right = λ so limit.
+        answer = λ limit.
             taken-found t (first_image_line (record { octet = octet; limit = limit })) is (first_told q)
-            (first_reads (record { octet = octet; limit = limit }) (take count new) (first_told q) (told.right so))
-            ∙ ap (found (first_told q)) (sym (told.after so));
-        none = λ so limit f n e.
-            told.none so f
+            (first_reads (record { octet = octet; limit = limit }) (take count new) (first_told q) told.answer.is)
+            ∙ ap (found (first_told q)) (sym told.answer.after);
+      }
+  first-told {count = count} {next = next} {q = None} is told =
+      record {
+        answer = λ limit f n e.
+            told.answer f
             (first_back (record { octet = octet; limit = limit }) (take count new) f
             (taken_back t (first_image_line (record { octet = octet; limit = limit })) is f n e));
       }

@@ -1,6 +1,6 @@
 -- A part of a line laid in a slot, and what the loop that lays messages keeps true: after i turns the first i messages are laid, those
 -- past them are empty, and every other number's are as they were. Assumes nothing.
-use Rattle.std.proofs.Common.{◌≡◌, ℕ, ◌+◌, ◌-◌, ◌<◌, ◌≤◌, List, [], map, length, get_or, take, drop, set, sym, refl, ap, ◌∙◌, ⊎_elim, arith, length-drop, length-set, length-take, length-take-le, get_or-set_other, get_or-take, get_or-set_same}
+use Rattle.std.proofs.Common.{◌≡◌, ℕ, ◌+◌, ◌<◌, ◌≤◌, List, [], map, length, get_or, take, drop, set, sym, ap, ◌∙◌, ⊎_elim, arith, length-drop, length-set, length-take, length-take-le, get_or-set_other, get_or-take, get_or-set_same}
 use lib.ListN.{length-map, get_or-map, get_or-eq_default}
 use Rattle.octets.proofs.Laws.{same_or_not, below_or_not}
 use Rattle.datagram.specs.Sizes.{packet_limit, message_least, message_limit, messages_limit}
@@ -11,21 +11,14 @@ use Rattle.datagram.specs.declared.reader.Part.{Part}
 use Rattle.session_slots.specs.Store.{HasSlot, pasted}
 use Rattle.session_slots.proofs.Laws.{length-pasted, part-pasted, part-pasted-other, zeros_past-pasted, zeros_past-other}
 use Rattle.session_held.specs.Slots.{slots_heard, slots_messages, message_octets, message_slot}
-use Rattle.session_held.specs.Table.{places, message_place, kept_set}
+use Rattle.session_held.specs.Table.{places, message_place}
 use Rattle.session_held.proofs.Laws.{message-small, message-apart, has-message-slot}
-use Rattle.image_reader.specs.Laying.{MessageIs, MessagesAre, PartLaid, KeptLaid, MessageLaid, MessagesFit, MessagesLaid}
+use Rattle.image_reader.specs.Laying.{MessageIs, MessagesAre, MessageLaid, MessagesFit, MessagesLaid}
 
 -- ---- a part has as many octets as it says
 pub length-octets : {s : List ℕ} {p : Part} → PartInside message_least message_limit s p → length (octets_of s p) ≡ p.size
 length-octets {s} {p} inside =
     length-take-le p.size (drop p.start s) (omega (arith, length-drop p.start s, inside.inside))
-
--- the part that the code cuts out ends its size past its start
-pub part-put : {slot : ℕ} {s : List ℕ} {p : Part} {old new : List ℕ} → PartInside message_least message_limit s p
-    → new ≡ pasted old slot (take (p.start + p.size - p.start) (drop p.start s)) → PartLaid slot s p old new p.size
-part-put {slot} {s} {p} {old} {new} inside e =
-    let all : p.start + p.size - p.start ≡ p.size = omega arith in
-    record { size = sym (length-octets inside); octets = rw all at e }
 
 -- ---- one message
 module _ {t g : List ℕ} {k : ℕ} (b : List ℕ) (has : HasSlot k g) (fits : length b ≤ packet_limit) where
@@ -74,36 +67,8 @@ pub record Laying (j : ℕ) (s : List ℕ) (parts : List Part) (count : ℕ) (t 
   pub laid : MessagesLaid j s parts i t g new_t new_g
   pub few : i ≤ count
 
-pub laying-start : (j : ℕ) (s : List ℕ) (parts : List Part) (count : ℕ) (t g : List ℕ) → Laying j s parts count t g t g 0
-laying-start j s parts count t g =
-    record {
-      laid =
-          record {
-            long = refl;
-            octets = refl;
-            laid = λ empty. empty;
-            others = λ e small other messages are. are;
-            before = λ k low. refl;
-          };
-      few = omega arith;
-    }
-
 module _ {j : ℕ} {s : List ℕ} {parts : List Part} {count : ℕ} {t g new_t new_g : List ℕ} {i : ℕ}
     (l : Laying j s parts count t g new_t new_g i) where
-  pub laying-done : count ≤ i → MessagesLaid j s parts count t g new_t new_g
-  laying-done done =
-      let all : i ≡ count = omega (arith, l.few) in
-      rw all at l.laid
-
-  pub laying-long : length t ≡ places → length new_t ≡ places
-  laying-long long = l.laid.long ∙ long
-
-  pub laying-table : length new_t ≡ length t
-  laying-table = l.laid.long
-
-  pub laying-store : length new_g ≡ length g
-  laying-store = l.laid.octets
-
   module _ (small : j < slots_heard) (long : length t ≡ places) (octets : length g ≡ message_octets) (fit : MessagesFit s parts count)
       (more : i < count) where
     low : i < messages_limit
@@ -170,16 +135,3 @@ module _ {j : ℕ} {s : List ℕ} {parts : List Part} {count : ℕ} {t g new_t n
               };
           few = omega arith;
         })
-
-pub ruleset layings = (laying-start, laying-long, laying-slot, laying-place, laying-part, laying-turn, laying-done)
-
--- ---- a kept number, and one message
-pub kept-laid : {slot state note : ℕ} {s : List ℕ} {p : Part} {t o new_t new_o : List ℕ} {size : ℕ} → PartLaid slot s p o new_o size
-    → new_t ≡ kept_set t slot state size note → KeptLaid slot state note s p t o new_t new_o
-kept-laid {slot} {state} {note} {s} {p} {t} put e =
-    record { table = e ∙ ap (λ (n : ℕ). kept_set t slot state n note) put.size; octets = put.octets }
-
-pub message-laid : {slot : ℕ} {s : List ℕ} {p : Part} {t g new_t new_g : List ℕ} {size : ℕ} → PartLaid slot s p g new_g size
-    → new_t ≡ set t (message_place slot) size → MessageLaid slot s p t g new_t new_g
-message-laid {slot} {s} {p} {t} put e =
-    record { table = e ∙ ap (λ (n : ℕ). set t (message_place slot) n) put.size; octets = put.octets }

@@ -1,6 +1,6 @@
 -- A packet or message at its place, and several of them: one law for each answer of `item_at`, and the turns of `items_at`. The loop's
 -- invariant: what is left to read, put behind what was read, is the whole. Assumes nothing.
-use Rattle.std.proofs.Common.{◌≡◌, ℕ, suc, ◌+◌, ◌-◌, ◌<◌, ◌≤◌, true, false, List, [], ◌∷◌, ◌++◌, length, take, drop, set, replicate, sym, refl, ap, ◌∙◌, append-nil, add-one, arith, length-drop, length-set, take_all, take-suc-set, le-ltb, lt-ltb}
+use Rattle.std.proofs.Common.{◌≡◌, ℕ, suc, ◌+◌, ◌-◌, ◌<◌, ◌≤◌, List, [], ◌∷◌, ◌++◌, Option, Some, None, length, take, drop, set, replicate, sym, refl, ap, ◌∙◌, append-nil, add-one, arith, length-drop, length-set, take_all, take-suc-set, le-ltb, lt-ltb, Result, Ok, Err}
 use lib.ListN.{length-replicate}
 use lib.Seq.{append_snoc}
 use Rattle.length.specs.Answers.{Answer, done, refused, ◌>>=◌, read_from, length_outcome}
@@ -8,7 +8,6 @@ use Rattle.length.specs.Length.{length_within}
 use Rattle.length.specs.Promise.{WithinRead}
 use Rattle.length.specs.declared.Refusal.{Refusal}
 use Rattle.length.specs.declared.Length.{Length}
-use Rattle.length.specs.declared.Length.TheVariants as length
 use Rattle.length.proofs.Laws.{not_done, bind_done}
 use Rattle.datagram.specs.Sizes.{message_least, messages_limit}
 use Rattle.datagram.specs.Read.{after, length_from, item_at, items_at, end_of}
@@ -16,11 +15,9 @@ use Rattle.datagram.specs.Promise.{nowhere}
 use Rattle.datagram.specs.declared.reader.Part.{Part}
 use Rattle.datagram.proofs.Laws.{within-ends, item-done}
 use Rattle.image_reader.specs.Items.{NoItem, ItemTold, ItemsTold}
-use Rattle.image_reader.specs.declared.items.Item.{Item}
-use Rattle.image_reader.specs.declared.items.Item.TheVariants as item
 
 -- ---- one
-module _ {limit : ℕ} (s : List ℕ) (at : ℕ) {found : Length}
+module _ {limit : ℕ} (s : List ℕ) (at : ℕ) {found : Result Length Refusal}
     (read : WithinRead message_least limit (take (length s - at) (drop at s)) found) where
   -- the length reader looks at the rest from the place on
   told : length_from message_least limit s at ≡ read_from at (length_outcome found)
@@ -28,41 +25,42 @@ module _ {limit : ℕ} (s : List ℕ) (at : ℕ) {found : Length}
       let rest : take (length s - at) (drop at s) ≡ drop at s = take_all (length s - at) (drop at s) (omega (arith, length-drop at s)) in
       ap (read_from at) (sym (read.answer ∙ ap (length_within message_least limit) rest))
 
-  pub item-none : {why : Refusal} → found ≡ length.Refused why → ItemTold limit s at item.Misshapen
+  pub item-none : {why : Refusal} → found ≡ Err why → ItemTold limit s at None
   unfolding item_at
   item-none {why} is =
       record {
         answer = λ p e.
             let l = bind_done (length_from message_least limit s at) _ p e in
-            not_done (sym (ap (λ (x : Length). read_from at (length_outcome x)) is) ∙ sym told ∙ l.1);
+            not_done (sym (ap (λ (x : Result Length Refusal). read_from at (length_outcome x)) is) ∙ sym told ∙ l.1);
       }
 
-  module _ {v n : ℕ} (is : found ≡ length.Value v n) where
-    length-told : length_from message_least limit s at ≡ done (record { value = v; size = n })
-    length-told = told ∙ ap (λ (x : Length). read_from at (length_outcome x)) is
+  module _ {l : Length} (is : found ≡ Ok l) where
+    length-told : length_from message_least limit s at ≡ done (record { value = l.value; size = l.size })
+    length-told = told ∙ ap (λ (x : Result Length Refusal). read_from at (length_outcome x)) is
 
-    pub length-ends : at ≤ length s → at + n ≤ length s
-    length-ends inside = within-ends message_least limit s at (record { value = v; size = n }) length-told inside
+    pub length-ends : at ≤ length s → at + l.size ≤ length s
+    length-ends inside = within-ends message_least limit s at (record { value = l.value; size = l.size }) length-told inside
 
-    pub item-cut : length s - (at + n) < v → ItemTold limit s at item.Misshapen
+    pub item-cut : length s - (at + l.size) < l.value → ItemTold limit s at None
     unfolding item_at
-    item-cut short = record { answer = λ p e. not_done (rw (length-told, lt-ltb (length s - (at + n)) v short) at e) }
+    item-cut short = record { answer = λ p e. not_done (rw (length-told, lt-ltb (length s - (at + l.size)) l.value short) at e) }
 
-    pub item-found : v ≤ length s - (at + n) → ItemTold limit s at (item.Found (record { start = at + n; size = v }))
+    pub item-found : l.value ≤ length s - (at + l.size)
+        → ItemTold limit s at (Some (record { start = at + l.size; size = l.value }))
     unfolding item_at
-    item-found room = record { answer = rw (length-told, le-ltb (length s - (at + n)) v room) }
+    item-found room = record { answer = rw (length-told, le-ltb (length s - (at + l.size)) l.value room) }
 
 pub ruleset parts = (item-none, item-cut, item-found)
 
 -- what was told of one
-module _ {limit : ℕ} {s : List ℕ} {at : ℕ} {r : Item} (t : ItemTold limit s at r) where
-  pub told-item : {p : Part} → r ≡ item.Found p → item_at message_least limit s at ≡ done p
+module _ {limit : ℕ} {s : List ℕ} {at : ℕ} {r : Option Part} (t : ItemTold limit s at r) where
+  pub told-item : {p : Part} → r ≡ Some p → item_at message_least limit s at ≡ done p
   told-item is = rw is at t.answer
 
-  pub told_none : r ≡ item.Misshapen → NoItem limit s at
+  pub told_none : r ≡ None → NoItem limit s at
   told_none is = rw is at t.answer
 
-  pub item-ends : {p : Part} → r ≡ item.Found p → at ≤ length s → p.start + p.size ≤ length s
+  pub item-ends : {p : Part} → r ≡ Some p → at ≤ length s → p.start + p.size ≤ length s
   item-ends {p} is inside = (item-done message_least limit s at p (told-item is)).inside inside
 
 -- ---- several
@@ -130,12 +128,12 @@ module _ {limit : ℕ} {s : List ℕ} {count first : ℕ} where
             ∙ ap (λ (k : ℕ). prefixed [] (items_at message_least limit s first k)) (sym whole);
       }
 
-  module _ {places : List Part} {at i : ℕ} (so : Turning limit s count first places at i) (more : i < count) {r : Item}
+  module _ {places : List Part} {at i : ℕ} (so : Turning limit s count first places at i) (more : i < count) {r : Option Part}
       (told : ItemTold limit s at r) where
     one : count - i ≡ suc (count - (i + 1))
     one = omega arith
 
-    pub turn-again : {p : Part} → r ≡ item.Found p → Turning limit s count first (set places i p) (p.start + p.size) (i + 1)
+    pub turn-again : {p : Part} → r ≡ Some p → Turning limit s count first (set places i p) (p.start + p.size) (i + 1)
     turn-again {p} is =
         let e = told-item told is in
         let low : i < length places = omega (arith, so.few, so.there) in
@@ -155,12 +153,10 @@ module _ {limit : ℕ} {s : List ℕ} {count first : ℕ} where
         }
 
     -- a refused one refuses all
-    pub turn-none : r ≡ item.Misshapen → {end : ℕ} {kept : List Part}
-        → ItemsTold limit s first count (record { read = false; end = end; parts = kept })
+    pub turn-none : r ≡ None → ItemsTold limit s first count None
     turn-none is =
         record {
-          right = λ never. let z : ◌≡◌ {A = ℕ} 0 1 = cc in absurd (omega arith);
-          none = λ _ ps e.
+          answer = λ ps e.
               prefixed-never (take i places) (items_at message_least limit s at (suc (count - (i + 1))))
               (items-never limit s at (count - (i + 1)) (told_none told is)) ps
               (sym (so.left ∙ ap (λ (k : ℕ). prefixed (take i places) (items_at message_least limit s at k)) one) ∙ e);
@@ -168,12 +164,12 @@ module _ {limit : ℕ} {s : List ℕ} {count first : ℕ} where
 
   -- none is left to read
   pub turn-done : {places : List Part} {at i : ℕ} → Turning limit s count first places at i → count ≤ i
-      → ItemsTold limit s first count (record { read = true; end = at; parts = places })
+      → ItemsTold limit s first count (Some (record { end = at; parts = places }))
   turn-done {places} {at} {i} so all =
       let is : i ≡ count = omega (arith, so.some) in
       let none : count - i ≡ 0 = omega arith in
       record {
-        right = λ _.
+        answer =
             record {
               read =
                   so.left
@@ -183,7 +179,6 @@ module _ {limit : ℕ} {s : List ℕ} {count first : ℕ} where
                   ∙ ap (λ (k : ℕ). done (take k places)) is;
               ends = ap (λ (k : ℕ). end_of first (take k places)) (sym is) ∙ so.ends;
             };
-        none = λ never. let z : ◌≡◌ {A = ℕ} 0 1 = cc in absurd (omega arith);
       }
 
 pub ruleset turns = (turn-start, turn-again, turn-none, turn-done)

@@ -25,13 +25,6 @@ use Rattle.image_reader.proofs.NumberSteps.{base-most}
 use Rattle.image_reader.proofs.Messages.{length-octets}
 use Rattle.image_reader.proofs.Slots.{kept_here, kept-other, kept_same, held-here, held-other, held_same, marks-past}
 
--- ---- the k-th place before the base, or from it on
-pub place-ahead : {ahead : Bool} (k : ℕ) → ahead ≡ true → kept_before + k ≡ from_base ahead kept_before + k
-place-ahead k e = ap (λ (b : Bool). from_base b kept_before + k) (sym e)
-
-pub place-before : {ahead : Bool} (k : ℕ) → ahead ≡ false → k ≡ from_base ahead kept_before + k
-place-before k e = let none : k ≡ 0 + k = omega arith in none ∙ ap (λ (b : Bool). from_base b kept_before + k) (sym e)
-
 -- ---- rows
 module _ (rows : List layout.Number) (x : layout.Number) where
   row_here : (p : ℕ) → p ≡ length rows → get_or (rows ++ (x ∷ [])) p not_yet ≡ x

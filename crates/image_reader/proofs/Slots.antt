@@ -14,12 +14,6 @@ use Rattle.session_held.proofs.Laws.{kept-elsewhere}
 use Rattle.image_reader.specs.Laying.{KeptIs, MessagesAre, HeldIs}
 
 -- ---- where the table is written
-pub second-there : (t : List ℕ) (i v j : ℕ) → length t ≡ places → j < slots_heard → n_place j < length (set t i v)
-second-there t i v j long small = omega (arith, length-set t i v)
-
-pub third-there : (t : List ℕ) (i v k w j : ℕ) → length t ≡ places → j < slots_heard → m_place j < length (set (set t i v) k w)
-third-there t i v k w j long small = omega (arith, length-set t i v, length-set (set t i v) k w)
-
 heard-elsewhere : (t : List ℕ) (j mark n m k : ℕ) → (k ≡ mark_place j → ⊥) → (k ≡ n_place j → ⊥) → (k ≡ m_place j → ⊥)
     → get_or (heard_set t j mark n m) k 0 ≡ get_or t k 0
 heard-elsewhere t j mark n m k no-mark no-n no-m =

@@ -1,5 +1,5 @@
 -- The line at the front of a text, found by the run of upper-case digits there: one law for each answer of `take_line`. Assumes nothing.
-use Rattle.std.proofs.Common.{◌≡◌, ℕ, zero, suc, ◌+◌, ◌-◌, ◌/◌, ◌%◌, ◌<◌, ◌≤◌, Bool, true, false, cond, eqb, ltb, List, [], ◌∷◌, ◌++◌, length, get_or, take, drop, sym, refl, ap, ◌∙◌, ⊎_elim, arith, length-take-le, get_or-take, eq-eqb, ne_eqb}
+use Rattle.std.proofs.Common.{◌≡◌, ℕ, zero, suc, ◌+◌, ◌/◌, ◌%◌, ◌<◌, ◌≤◌, Bool, true, false, cond, eqb, ltb, List, [], ◌∷◌, ◌++◌, Option, Some, None, length, get_or, take, drop, sym, refl, ap, ◌∙◌, ⊎_elim, arith, length-take-le, get_or-take, eq-eqb, ne_eqb}
 use Rattle.octets.proofs.Laws.{all_below-of, and_both, below_or_not}
 use Rattle.length.specs.Claims.{Octets}
 use Rattle.line.specs.Hex.{digit_of, no_digit, all_digits, octets_in}
@@ -8,8 +8,6 @@ use Rattle.line.proofs.Laws.{length-octets_in}
 use Rattle.image.specs.Parts.{line_at, upper_digit, upper_pairs}
 use Rattle.image.proofs.Laws.{pairs_of}
 use Rattle.image_reader.specs.Text.{UpperTo, UpperRun, LineOctets, LineTaken}
-use Rattle.image_reader.specs.declared.text.Taken.{Taken}
-use Rattle.image_reader.specs.declared.text.Taken.TheVariants as taken
 use Rattle.image_reader.proofs.Digits.{upper-digit}
 
 -- ---- the characters before the first line feed
@@ -63,14 +61,14 @@ pairs-at s k e below =
 
 module _ {text : List ℕ} {stop : ℕ} (run : UpperRun text stop) where
   -- no line feed at all
-  pub none-ended : {old new : List ℕ} → length text ≤ stop → LineTaken text old new taken.Misshapen
+  pub none-ended : {old new : List ℕ} → length text ≤ stop → LineTaken text old new None
   none-ended all =
       record {
         answer = λ short pairs fits. omega (arith, line-reaches text stop (run-plain run.to) run.to.inside, run.to.inside);
       }
 
   -- another character than a line feed ends the digits
-  pub none_other : {old new : List ℕ} → stop < length text → (get_or text stop 0 ≡ line_feed → ⊥) → LineTaken text old new taken.Misshapen
+  pub none_other : {old new : List ℕ} → stop < length text → (get_or text stop 0 ≡ line_feed → ⊥) → LineTaken text old new None
   none_other inside other =
       let more : (k : ℕ) → k < stop + 1 → get_or text k 0 ≡ line_feed → ⊥ =
       λ k below is.
@@ -95,11 +93,11 @@ module _ {text : List ℕ} {stop : ℕ} (run : UpperRun text stop) where
     line-is = line-take text ∙ ap (λ (n : ℕ). take n text) line-long
 
     -- half an octet
-    pub none-odd : {old new : List ℕ} → (stop % 2 ≡ 0 → ⊥) → LineTaken text old new taken.Misshapen
+    pub none-odd : {old new : List ℕ} → (stop % 2 ≡ 0 → ⊥) → LineTaken text old new None
     none-odd odd = record { answer = λ short pairs fits. odd (rw line-long at (pairs_of (line_at text) pairs).even) }
 
     -- more octets than there is room for
-    pub none-long : {old new : List ℕ} → length old < stop / 2 → LineTaken text old new taken.Misshapen
+    pub none-long : {old new : List ℕ} → length old < stop / 2 → LineTaken text old new None
     none-long long = record { answer = λ short pairs fits. omega (arith, length-octets_in (line_at text), line-long) }
 
     -- pairs of digits
@@ -126,7 +124,7 @@ module _ {text : List ℕ} {stop : ℕ} (run : UpperRun text stop) where
 
     pub line-octets : {old new : List ℕ} → stop % 2 ≡ 0 → stop / 2 ≤ length old
         → new ≡ octets_in (take stop text) ++ drop (length (take stop text) / 2) old
-        → LineTaken text old new (taken.Octets (stop / 2) (stop + 1))
+        → LineTaken text old new (Some (stop / 2, stop + 1))
     line-octets {old} {new} even room e =
         let count : length (octets_in (line_at text)) ≡ stop / 2
         = length-octets_in (line_at text) ∙ ap (λ (n : ℕ). n / 2) line-long in
@@ -150,10 +148,10 @@ module _ {text : List ℕ} {stop : ℕ} (run : UpperRun text stop) where
 pub ruleset takings = (none-ended, none_other, none-odd, none-long, line-octets)
 
 -- ---- what was told of a line
-module _ {text old new : List ℕ} {r : Taken} (t : LineTaken text old new r) where
-  pub taken-octets : {count next : ℕ} → r ≡ taken.Octets count next → LineOctets text old new count next
+module _ {text old new : List ℕ} {r : Option (ℕ × ℕ)} (t : LineTaken text old new r) where
+  pub taken-octets : {count next : ℕ} → r ≡ Some (count, next) → LineOctets text old new count next
   taken-octets is = rw is at t.answer
 
-  pub taken_none : r ≡ taken.Misshapen → length (line_at text) < length text → upper_pairs (line_at text) ≡ true
+  pub taken_none : r ≡ None → length (line_at text) < length text → upper_pairs (line_at text) ≡ true
       → length (octets_in (line_at text)) ≤ length old → ⊥
   taken_none is = rw is at t.answer

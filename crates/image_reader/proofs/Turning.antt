@@ -1,6 +1,6 @@
 -- One turn of the loop over the lines of numbers. The invariant: what is left to read, put behind what was read, is the whole; and what was
 -- read is laid behind whatever was there. Assumes nothing.
-use Rattle.std.proofs.Common.{◌≡◌, ℕ, suc, ◌+◌, ◌-◌, ◌*◌, ◌<◌, ◌≤◌, Bool, List, [], ◌∷◌, ◌++◌, length, take, drop, sym, refl, ap, ◌∙◌, append_assoc, append-nil, arith, length-append, length-drop, take_all}
+use Rattle.std.proofs.Common.{◌≡◌, ℕ, suc, ◌+◌, ◌-◌, ◌*◌, ◌<◌, ◌≤◌, Bool, List, [], ◌∷◌, ◌++◌, Option, Some, None, length, take, drop, sym, refl, ap, ◌∙◌, append_assoc, append-nil, arith, length-append, length-drop, take_all}
 use lib.Seq.{append_snoc}
 use Rattle.datagram.specs.Sizes.{packet_limit}
 use Rattle.format.specs.Reading.{Finding, found, stopped, and_then, found_from}
@@ -15,8 +15,6 @@ use Rattle.image.specs.Layout.{number_line, from_base}
 use Rattle.image.specs.Image.{number_line_limit}
 use Rattle.image_reader.specs.Laying.{Lengths, Filled}
 use Rattle.image_reader.specs.Whole.{LineTold, LinesTold}
-use Rattle.image_reader.specs.declared.whole.Reached.{Reached}
-use Rattle.image_reader.specs.declared.whole.Reached.TheVariants as reached
 use Rattle.image_reader.proofs.Edges.{stepped}
 use Rattle.image_reader.proofs.Fronts.{front-inside}
 
@@ -100,34 +98,9 @@ pub record Reading (limit : ℕ) (ahead : Bool) (base : ℕ) (text : List ℕ) (
       → Filled base (rows ++ numbers) new_t new_o new_g
 
 module _ {limit : ℕ} {ahead : Bool} {base : ℕ} {text : List ℕ} {from : ℕ} {t o g : List ℕ} where
-  pub reading-start : {buffer : List ℕ} → from ≤ length text → Lengths t o g → number_line_limit packet_limit ≡ length buffer
-      → Reading limit ahead base text from t o g t o g buffer from 0
-  reading-start inside sized long =
-      record {
-        numbers = [];
-        counted = refl;
-        few = omega arith;
-        inside = inside;
-        before = sized;
-        sized = sized;
-        long = long;
-        left = prefixed-none (lines_left limit ahead kept_ahead text from);
-        lays = λ rows many f. rw (append-nil rows) f;
-      }
-
   module _ {new_t new_o new_g buffer : List ℕ} {at k : ℕ} (so : Reading limit ahead base text from t o g new_t new_o new_g buffer at k) where
-    -- table and stores keep their lengths
-    pub reading-table : length new_t ≡ length t
-    reading-table = so.sized.table ∙ sym so.before.table
-
-    pub reading-octets : length new_o ≡ length o
-    reading-octets = so.sized.octets ∙ sym so.before.octets
-
-    pub reading-messages : length new_g ≡ length g
-    reading-messages = so.sized.messages ∙ sym so.before.messages
-
     -- none is left
-    pub reading-done : kept_ahead ≤ k → LinesTold limit ahead base text from t o g new_t new_o new_g (reached.At at)
+    pub reading-done : kept_ahead ≤ k → LinesTold limit ahead base text from t o g new_t new_o new_g (Some at)
     reading-done all =
         let is : k ≡ kept_ahead = omega (arith, so.few) in
         let none : kept_ahead - k ≡ 0 = omega arith in
@@ -147,16 +120,17 @@ module _ {limit : ℕ} {ahead : Bool} {base : ℕ} {text : List ℕ} {from : ℕ
               };
         }
 
-    module _ (more : k < kept_ahead) {after_t after_o after_g : List ℕ} {r : Reached}
+    module _ (more : k < kept_ahead) {after_t after_o after_g : List ℕ} {r : Option ℕ}
         (told : LineTold limit ahead base k (take (length text - at) (drop at text)) new_t new_o new_g after_t after_o after_g r) where
       one : kept_ahead - k ≡ suc (kept_ahead - (k + 1))
       one = omega arith
 
-      pub reading-none : r ≡ reached.Misshapen → {last_t last_o last_g : List ℕ}
-          → LinesTold limit ahead base text from t o g last_t last_o last_g reached.Misshapen
-      reading-none is =
+      pub reading-none : r ≡ None → {last_t last_o last_g : List ℕ}
+          → {v : Option ℕ} → v ≡ None → LinesTold limit ahead base text from t o g last_t last_o last_g v
+      reading-none is none =
           let never = rw (is, rest_of text at) at told.answer in
-          record {
+          rw none
+          (record {
             answer = λ numbers p e.
                 prefixed-never so.numbers (lines_left limit ahead (suc (kept_ahead - (k + 1))) text at)
                 (rows-never (line (number_line limit ahead)).read (kept_ahead - (k + 1)) text 0 (8 * at)
@@ -164,15 +138,15 @@ module _ {limit : ℕ} {ahead : Bool} {base : ℕ} {text : List ℕ} {from : ℕ
                 numbers
                 p
                 (sym (so.left ∙ ap (λ (n : ℕ). prefixed so.numbers (lines_left limit ahead n text at)) one) ∙ e);
-          }
+          })
 
-      pub reading-ends : {taken : ℕ} → r ≡ reached.At taken → at + taken ≤ length text
+      pub reading-ends : {taken : ℕ} → r ≡ Some taken → at + taken ≤ length text
       reading-ends {taken} is =
           let laid = rw (is, rest_of text at) at told.answer in
           let inside = front-inside (number_line limit ahead) (drop at text) laid.number taken laid.read in
           omega (arith, so.inside, length-drop at text)
 
-      pub reading-turn : {taken : ℕ} {last : List ℕ} → r ≡ reached.At taken → length last ≡ length buffer
+      pub reading-turn : {taken : ℕ} {last : List ℕ} → r ≡ Some taken → length last ≡ length buffer
           → Reading limit ahead base text from t o g after_t after_o after_g last (at + taken) (k + 1)
       reading-turn {taken} is kept =
           let laid = rw (is, rest_of text at) at told.answer in
@@ -196,5 +170,3 @@ module _ {limit : ℕ} {ahead : Bool} {base : ℕ} {text : List ℕ} {from : ℕ
                 rw append_assoc at
                 (laid.lays (rows ++ so.numbers) (omega (arith, length-append rows so.numbers, so.counted)) (so.lays rows many f));
           }
-
-pub ruleset readings = (reading-start, reading-table, reading-octets, reading-messages, reading-done, reading-none, reading-turn)

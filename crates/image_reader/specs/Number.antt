@@ -1,6 +1,6 @@
 -- The items of a number's line (rules 20.4 to 20.7): which octets they are, and which parts of the line the packet and the messages are.
 -- They are proved equal to what `Layout` of `image` reads. And what the functions promise that find them. Definitions only.
-use Rattle.std.specs.Prelude.{◌≡◌, ℕ, ◌+◌, ◌*◌, ◌≤◌, Bool, true, false, List, map, length, take, nat_lt, slice_index}
+use Rattle.std.specs.Prelude.{◌≡◌, ℕ, ◌+◌, ◌*◌, ◌≤◌, Bool, List, Option, Some, None, map, length, take, nat_lt, slice_index}
 use Rattle.length.specs.Answers.{done}
 use Rattle.datagram.specs.Sizes.{message_least, covered_limit, messages_limit}
 use Rattle.datagram.specs.Read.{after, octets_of, item_at, items_at, end_of}
@@ -21,10 +21,16 @@ pub record TailIs (limit : ℕ) (ahead : Bool) (s : List ℕ) (at n : ℕ) (mess
   pub read : items_at message_least limit s (at + 2) (length messages) ≡ done messages
   pub ends : end_of (at + 2) messages ≡ length s
 
-pub record TailTold (limit : ℕ) (ahead : Bool) (s : List ℕ) (at : ℕ) (r : Tail) : Type 0 where
-  pub right : r.read ≡ true → TailIs limit ahead s at r.n (take r.m r.parts)
-  pub counted : r.read ≡ true → length (take r.m r.parts) ≡ r.m
-  pub none : r.read ≡ false → (n : ℕ) (messages : List Part) → TailIs limit ahead s at n messages → ⊥
+pub record TailRead (limit : ℕ) (ahead : Bool) (s : List ℕ) (at : ℕ) (r : Tail) : Type 0 where
+  pub is : TailIs limit ahead s at r.n (take r.m r.parts)
+  pub counted : length (take r.m r.parts) ≡ r.m
+
+abbrev pub TailCase : ℕ → Bool → List ℕ → ℕ → Option Tail → Type 0
+TailCase limit ahead s at (Some r) = TailRead limit ahead s at r
+TailCase limit ahead s at None = (n : ℕ) (messages : List Part) → TailIs limit ahead s at n messages → ⊥
+
+pub record TailTold (limit : ℕ) (ahead : Bool) (s : List ℕ) (at : ℕ) (r : Option Tail) : Type 0 where
+  pub answer : TailCase limit ahead s at r
 
 -- ---- the whole line
 pub record LineParts : Type 0 where
@@ -65,14 +71,13 @@ parts_of r =
       messages = take r.m r.parts;
     }
 
-pub record NumberTold (limit : ℕ) (ahead : Bool) (s : List ℕ) (r : Number) : Type 0 where
-  pub right : r.read ≡ true → NumberIs limit ahead s (parts_of r)
-  pub counted : r.read ≡ true → length (take r.m r.parts) ≡ r.m
-  pub none : r.read ≡ false → (x : LineParts) → NumberIs limit ahead s x → ⊥
+pub record NumberRead (limit : ℕ) (ahead : Bool) (s : List ℕ) (r : Number) : Type 0 where
+  pub is : NumberIs limit ahead s (parts_of r)
+  pub counted : length (take r.m r.parts) ≡ r.m
 
--- ---- nothing was read
-pub record NoTail (r : Tail) : Type 0 where
-  pub refused : r.read ≡ false
+abbrev pub NumberCase : ℕ → Bool → List ℕ → Option Number → Type 0
+NumberCase limit ahead s (Some r) = NumberRead limit ahead s r
+NumberCase limit ahead s None = (x : LineParts) → NumberIs limit ahead s x → ⊥
 
-pub record NoNumber (r : Number) : Type 0 where
-  pub refused : r.read ≡ false
+pub record NumberTold (limit : ℕ) (ahead : Bool) (s : List ℕ) (r : Option Number) : Type 0 where
+  pub answer : NumberCase limit ahead s r

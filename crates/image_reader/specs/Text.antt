@@ -1,12 +1,8 @@
 -- What the functions promise that take a line of an image from a text (rules 20.1 and 20.14). Definitions only.
-use Rattle.std.specs.Prelude.{◌≡◌, ℕ, ◌+◌, ◌<◌, ◌≤◌, Bool, true, false, List, ◌++◌, length, drop, slice_index}
+use Rattle.std.specs.Prelude.{◌≡◌, ℕ, ◌+◌, ◌<◌, ◌≤◌, Bool, true, false, List, ◌++◌, Option, Some, None, length, drop, slice_index}
 use Rattle.line.specs.Hex.{octets_in}
 use Rattle.image.specs.Parts.{line_at, upper_digit, upper_pairs}
 use Rattle.image.specs.Image.{names_edition, edition_named}
-use Rattle.image_reader.specs.declared.text.Named.{Named}
-use Rattle.image_reader.specs.declared.text.Named.TheVariants as named
-use Rattle.image_reader.specs.declared.text.Taken.{Taken}
-use Rattle.image_reader.specs.declared.text.Taken.TheVariants as taken
 
 -- the character at distance j from a place is an upper-case digit
 abbrev pub upper_at : List ℕ → ℕ → ℕ → Bool
@@ -37,17 +33,17 @@ abbrev pub NoLine : List ℕ → ℕ → Type 0
 NoLine text room =
     length (line_at text) < length text → upper_pairs (line_at text) ≡ true → length (octets_in (line_at text)) ≤ room → ⊥
 
-abbrev pub TakenCase : List ℕ → List ℕ → List ℕ → Taken → Type 0
-TakenCase text old new (taken.Octets count next) = LineOctets text old new count next
-TakenCase text old new taken.Misshapen = NoLine text (length old)
+abbrev pub TakenCase : List ℕ → List ℕ → List ℕ → Option (ℕ × ℕ) → Type 0
+TakenCase text old new (Some x) = LineOctets text old new x.0 x.1
+TakenCase text old new None = NoLine text (length old)
 
-pub record LineTaken (text old new : List ℕ) (r : Taken) : Type 0 where
+pub record LineTaken (text old new : List ℕ) (r : Option (ℕ × ℕ)) : Type 0 where
   pub answer : TakenCase text old new r
 
 -- ---- the version that a text names (rule 20.12)
-abbrev pub NamedCase : List ℕ → Named → Type 0
-NamedCase text (named.Octet octet) = (names_edition text ≡ true) × (edition_named text ≡ octet)
-NamedCase text named.Nothing = names_edition text ≡ false
+abbrev pub NamedCase : List ℕ → Option ℕ → Type 0
+NamedCase text (Some octet) = (names_edition text ≡ true) × (edition_named text ≡ octet)
+NamedCase text None = names_edition text ≡ false
 
-pub record EditionTold (text : List ℕ) (r : Named) : Type 0 where
+pub record EditionTold (text : List ℕ) (r : Option ℕ) : Type 0 where
   pub told : NamedCase text r

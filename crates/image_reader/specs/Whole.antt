@@ -1,7 +1,8 @@
 -- What the functions promise that read an image line by line (rules 20.2, 20.3 and 20.18). Definitions only.
-use Rattle.std.specs.Prelude.{◌≡◌, ℕ, ◌+◌, ◌*◌, ◌≤◌, Bool, true, false, List, [], ◌∷◌, ◌++◌, length, drop, ◌≢◌, slice_index, slice_index_or}
+use Rattle.std.specs.Prelude.{◌≡◌, ℕ, ◌+◌, ◌*◌, ◌≤◌, Bool, List, [], ◌∷◌, ◌++◌, Option, Some, None, Err, length, drop, ◌≢◌, slice_index, slice_index_or}
 use Rattle.length.specs.Refusals.{refusal, bad_image}
 use Rattle.length.specs.Answers.{done, refuse}
+use Rattle.length.specs.declared.Reason.{Reason}
 use Rattle.format.specs.Reading.{found}
 use Rattle.format.specs.Format.{Format, sequence_of}
 use Rattle.session.specs.Cells.{kept_before, kept_ahead}
@@ -13,12 +14,9 @@ use Rattle.image.specs.Layout as layout
 use Rattle.image.specs.Layout.{number_line, image, from_base}
 use Rattle.image.specs.Image.{first_image_size, read_image}
 use Rattle.image.specs.Promise.{restored_outcome, Restores}
-use Rattle.image.specs.declared.Restore.TheVariants as restore
 use Rattle.image.specs.declared.Restored.{Restored}
 use Rattle.image_reader.specs.Laying.{Lengths, Filled}
 use Rattle.image_reader.specs.declared.whole.First.{First}
-use Rattle.image_reader.specs.declared.whole.Reached.{Reached}
-use Rattle.image_reader.specs.declared.whole.Reached.TheVariants as reached
 
 -- ---- the first line
 -- rule 20.2: its octets are the version octet, the base in two octets and the four counts in four octets each, high first
@@ -35,20 +33,27 @@ pub record FirstIs (octet : ℕ) (s : List ℕ) (f : layout.FirstImageLine) : Ty
 abbrev pub first_told : First → layout.FirstImageLine
 first_told r = record { base = r.base; counts = counts_of r.counts }
 
-pub record FirstImageTold (octet : ℕ) (s : List ℕ) (end : ℕ) (r : First) : Type 0 where
-  pub right : r.read ≡ true → FirstIs octet s (first_told r)
-  pub after : r.read ≡ true → r.end ≡ end
-  pub none : r.read ≡ false → (f : layout.FirstImageLine) → FirstIs octet s f → ⊥
+pub record FirstImageRead (octet : ℕ) (s : List ℕ) (end : ℕ) (r : First) : Type 0 where
+  pub is : FirstIs octet s (first_told r)
+  pub after : r.end ≡ end
 
-pub record NoFirst (r : First) : Type 0 where
-  pub refused : r.read ≡ false
+abbrev pub FirstImageCase : ℕ → List ℕ → ℕ → Option First → Type 0
+FirstImageCase octet s end (Some r) = FirstImageRead octet s end r
+FirstImageCase octet s end None = (f : layout.FirstImageLine) → FirstIs octet s f → ⊥
+
+pub record FirstImageTold (octet : ℕ) (s : List ℕ) (end : ℕ) (r : Option First) : Type 0 where
+  pub answer : FirstImageCase octet s end r
 
 -- the first line of a text, whatever the limit of its version
-pub record FirstLineTold (octet : ℕ) (text : List ℕ) (r : First) : Type 0 where
-  pub right : r.read ≡ true → (limit : ℕ)
-      → line_front (layout.first_image_line (record { octet = octet; limit = limit })) text ≡ found (first_told r) r.end
-  pub none : r.read ≡ false → (limit : ℕ) (f : layout.FirstImageLine) (n : ℕ)
-      → line_front (layout.first_image_line (record { octet = octet; limit = limit })) text ≢ found f n
+abbrev pub FirstLineCase : ℕ → List ℕ → Option First → Type 0
+FirstLineCase octet text (Some r) =
+    (limit : ℕ) → line_front (layout.first_image_line (record { octet = octet; limit = limit })) text ≡ found (first_told r) r.end
+FirstLineCase octet text None =
+    (limit : ℕ) (f : layout.FirstImageLine) (n : ℕ)
+    → line_front (layout.first_image_line (record { octet = octet; limit = limit })) text ≢ found f n
+
+pub record FirstLineTold (octet : ℕ) (text : List ℕ) (r : Option First) : Type 0 where
+  pub answer : FirstLineCase octet text r
 
 -- ---- one line of a number
 pub record LineLaid (limit : ℕ) (ahead : Bool) (base k : ℕ)
@@ -59,14 +64,14 @@ pub record LineLaid (limit : ℕ) (ahead : Bool) (base k : ℕ)
   pub lays : (rows : List layout.Number) → length rows ≡ from_base ahead kept_before + k → Filled base rows table octets messages
       → Filled base (rows ++ (number ∷ [])) new_table new_octets new_messages
 
-abbrev pub LineCase : ℕ → Bool → ℕ → ℕ → List ℕ → List ℕ → List ℕ → List ℕ → List ℕ → List ℕ → List ℕ → Reached → Type 0
-LineCase limit ahead base k text table octets messages new_table new_octets new_messages (reached.At next) =
+abbrev pub LineCase : ℕ → Bool → ℕ → ℕ → List ℕ → List ℕ → List ℕ → List ℕ → List ℕ → List ℕ → List ℕ → Option ℕ → Type 0
+LineCase limit ahead base k text table octets messages new_table new_octets new_messages (Some next) =
     LineLaid limit ahead base k text table octets messages new_table new_octets new_messages next
-LineCase limit ahead base k text table octets messages new_table new_octets new_messages reached.Misshapen =
+LineCase limit ahead base k text table octets messages new_table new_octets new_messages None =
     (number : layout.Number) (next : ℕ) → line_front (number_line limit ahead) text ≢ found number next
 
 pub record LineTold (limit : ℕ) (ahead : Bool) (base k : ℕ)
-    (text table octets messages new_table new_octets new_messages : List ℕ) (r : Reached) : Type 0 where
+    (text table octets messages new_table new_octets new_messages : List ℕ) (r : Option ℕ) : Type 0 where
   pub answer : LineCase limit ahead base k text table octets messages new_table new_octets new_messages r
 
 -- ---- the lines before the base, or those from the base on
@@ -83,14 +88,14 @@ pub record LinesLaid (limit : ℕ) (ahead : Bool) (base : ℕ) (text : List ℕ)
   pub lays : (rows : List layout.Number) → length rows ≡ from_base ahead kept_before → Filled base rows table octets messages
       → Filled base (rows ++ numbers) new_table new_octets new_messages
 
-abbrev pub LinesCase : ℕ → Bool → ℕ → List ℕ → ℕ → List ℕ → List ℕ → List ℕ → List ℕ → List ℕ → List ℕ → Reached → Type 0
-LinesCase limit ahead base text from table octets messages new_table new_octets new_messages (reached.At end) =
+abbrev pub LinesCase : ℕ → Bool → ℕ → List ℕ → ℕ → List ℕ → List ℕ → List ℕ → List ℕ → List ℕ → List ℕ → Option ℕ → Type 0
+LinesCase limit ahead base text from table octets messages new_table new_octets new_messages (Some end) =
     LinesLaid limit ahead base text from table octets messages new_table new_octets new_messages end
-LinesCase limit ahead base text from table octets messages new_table new_octets new_messages reached.Misshapen =
+LinesCase limit ahead base text from table octets messages new_table new_octets new_messages None =
     (numbers : List layout.Number) (p : ℕ) → (number_lines limit ahead).read text 0 (8 * from) ≢ found numbers p
 
 pub record LinesTold (limit : ℕ) (ahead : Bool) (base : ℕ) (text : List ℕ) (from : ℕ)
-    (table octets messages new_table new_octets new_messages : List ℕ) (r : Reached) : Type 0 where
+    (table octets messages new_table new_octets new_messages : List ℕ) (r : Option ℕ) : Type 0 where
   pub answer : LinesCase limit ahead base text from table octets messages new_table new_octets new_messages r
 
 -- ---- the whole
@@ -102,11 +107,17 @@ pub record Cleared (entries kept heard : List ℕ) : Type 0 where
   pub messages : (k : ℕ) → slice_index heard k ≡ 0
 
 -- what read_core promises: the session that the text reads as, stored as `session_held` lays it out, or that the text is no image
-pub record CoreTold (octet limit : ℕ) (text table octets messages : List ℕ) (r : First) : Type 0 where
-  pub right : r.read ≡ true
-      → read_whole (image (record { octet = octet; limit = limit })) text ≡ done (view_in (lent r.base r.counts table octets messages))
-  pub laid : r.read ≡ true → Laid table octets messages
-  pub none : r.read ≡ false → read_whole (image (record { octet = octet; limit = limit })) text ≡ refuse bad_image
+pub record CoreRead (octet limit : ℕ) (text table octets messages : List ℕ) (r : First) : Type 0 where
+  pub is : read_whole (image (record { octet = octet; limit = limit })) text ≡ done (view_in (lent r.base r.counts table octets messages))
+  pub laid : Laid table octets messages
+
+abbrev pub CoreCase : ℕ → ℕ → List ℕ → List ℕ → List ℕ → List ℕ → Option First → Type 0
+CoreCase octet limit text table octets messages (Some r) = CoreRead octet limit text table octets messages r
+CoreCase octet limit text table octets messages None =
+    read_whole (image (record { octet = octet; limit = limit })) text ≡ refuse bad_image
+
+pub record CoreTold (octet limit : ℕ) (text table octets messages : List ℕ) (r : Option First) : Type 0 where
+  pub answer : CoreCase octet limit text table octets messages r
 
 -- what reading a text in one version promises
 pub record EditionRead (octet limit : ℕ) (text : List ℕ) (r : Restored) : Type 0 where
@@ -114,6 +125,6 @@ pub record EditionRead (octet limit : ℕ) (text : List ℕ) (r : Restored) : Ty
   pub state : Restores r.answer r.session
 
 -- rule 20.18: a refused text restores nothing
-pub record NothingRestored (number : ℕ) (r : Restored) : Type 0 where
-  pub answer : r.answer ≡ restore.Refused (refusal number)
+pub record NothingRestored (why : Reason) (r : Restored) : Type 0 where
+  pub answer : r.answer ≡ Err (refusal why)
   pub state : Fresh r.session

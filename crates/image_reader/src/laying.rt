@@ -21,11 +21,9 @@ fn put_part(octets: &mut [u8], slot: usize, s: &[u8], part: Part) -> u16
     requires part_inside { PartInside message_least message_limit s.now part }
     ensures { PartLaid slot s.now part octets.old octets.new result }
 {
-    let start = part.start;
-    let size = part.size;
-    let end = start + size;
-    session_slots::put(octets, slot, &s[start..end]);
-    size as u16
+    let end = part.start + part.size;
+    session_slots::put(octets, slot, &s[part.start..end]);
+    part.size as u16
 }
 
 // A kept number.
@@ -62,7 +60,8 @@ fn lay_message(table: &mut [u16], messages: &mut [u8], slot: usize, s: &[u8], pa
     session_held::set_message_size(table, slot, size);
 }
 
-// The messages of the number in slot j of those from the base on.
+// The messages of the number in slot j of those from the base on, as their line was read: an array with room for the most, and how many
+// there are.
 fn lay_messages(
     table: &mut [u16],
     messages: &mut [u8],
@@ -79,12 +78,8 @@ fn lay_messages(
         messages.new }
 {
     let at = j * Parity::MESSAGES;
-    let mut i = 0;
-    while i < count {
-        let part = parts[i];
-        let slot = at + i;
-        lay_message(table, messages, slot, s, part);
-        i += 1;
+    for i in 0..count {
+        lay_message(table, messages, at + i, s, parts[i]);
     }
 }
 
@@ -104,10 +99,7 @@ fn place_of(ahead: bool, k: usize) -> usize
     requires { k < kept_ahead }
     ensures { result ≡ from_base ahead kept_before + k }
 {
-    if ahead {
-        return Session::BEFORE + k;
-    }
-    k
+    if ahead { Session::BEFORE + k } else { k }
 }
 
 // The k-th number before the base, or from the base on; s is its line.
@@ -130,17 +122,19 @@ pub fn lay(
     let first = base as usize;
     let place = place_of(ahead, k);
     let slot = (first + Session::BEFORE + place) % Session::KEPT;
-    let packet = number.packet;
-    let state = number.state;
-    let note = number.note;
-    lay_kept(table, octets, slot, s, packet, state, note);
+    lay_kept(
+        table,
+        octets,
+        slot,
+        s,
+        number.packet,
+        number.state,
+        number.note,
+    );
     if ahead {
         let j = (first + k) % Session::HEARD;
-        let mark = number.mark;
-        let n = number.n;
-        let m = number.m;
         let parts = number.parts;
-        lay_messages(table, messages, j, s, parts, octets::wide(m));
-        set_held(table, j, mark, n, m);
+        lay_messages(table, messages, j, s, parts, usize::from(number.m));
+        set_held(table, j, number.mark, number.n, number.m);
     }
 }

@@ -14,20 +14,20 @@ ghost use Rattle.image.specs.Promise.{ImageRead};
 ghost use Rattle.image_reader.specs.Whole.{EditionRead, NothingRestored};
 
 use datagram::Packet;
-use image::{Image, Restore, Restored};
-use length::Refusal;
+use image::{Image, Restored};
+use length::{Reason, Refusal};
 use session_held::Session;
-use text::{Named, edition_named};
-use whole::read_core;
+use text::edition_named;
+use whole::{First, read_core};
 
 // A refused text: nothing is restored.
-fn refused(number: u8) -> Restored
-    ensures { NothingRestored number result }
+fn refused(reason: Reason) -> Restored
+    ensures { NothingRestored reason result }
 {
-    let why = Refusal::new(number);
-    let session = Session::fresh();
-    let answer = Restore::Refused(why);
-    Restored { session, answer }
+    Restored {
+        session: Session::fresh(),
+        answer: Err(Refusal::new(reason)),
+    }
 }
 
 // The session that a text is an image of, in the version with this octet, in which packets have at most `limit` octets.
@@ -38,25 +38,29 @@ fn read_edition(text: &[u8], edition: u8, limit: usize) -> Restored
     let mut table = [0u16; Session::PLACES];
     let mut octets = [0u8; Session::PACKET_OCTETS];
     let mut messages = [0u8; Session::MESSAGE_OCTETS];
-    let found = read_core(text, edition, limit, &mut table, &mut octets, &mut messages);
-    let read = found.read;
-    if !read {
-        return refused(Refusal::BAD_IMAGE);
+    let Some(
+        First {
+            base,
+            counts,
+            end: _,
+        },
+    ) = read_core(text, edition, limit, &mut table, &mut octets, &mut messages)
+    else {
+        return refused(Reason::BadImage);
+    };
+    if !session_check::in_ranges(base, counts, &table, &octets, &messages) {
+        return refused(Reason::OutsideRanges);
     }
-    let base = found.base;
-    let counts = found.counts;
-    if session_check::in_ranges(base, counts, &table, &octets, &messages) {
-        let session = Session {
+    Restored {
+        session: Session {
             base,
             counts,
             table,
             octets,
             messages,
-        };
-        let answer = Restore::Done;
-        return Restored { session, answer };
+        },
+        answer: Ok(()),
     }
-    refused(Refusal::OUTSIDE_RANGES)
 }
 
 // The session that a text is an image of, in the version that it names. The text may be any octets.
@@ -64,15 +68,9 @@ pub fn read(text: &[u8]) -> Restored
     ensures { ImageRead text.now result }
 {
     match edition_named(text) {
-        Named::Nothing => refused(Refusal::BAD_IMAGE),
-        Named::Octet(octet) => {
-            if octet == Image::OLD_EDITION {
-                return read_edition(text, Image::OLD_EDITION, Image::OLD_LIMIT);
-            }
-            if octet == Image::EDITION {
-                return read_edition(text, Image::EDITION, Packet::LIMIT);
-            }
-            refused(Refusal::OTHER_EDITION)
-        }
+        None => refused(Reason::BadImage),
+        Some(Image::OLD_EDITION) => read_edition(text, Image::OLD_EDITION, Image::OLD_LIMIT),
+        Some(Image::EDITION) => read_edition(text, Image::EDITION, Packet::LIMIT),
+        Some(_) => refused(Reason::OtherEdition),
     }
 }

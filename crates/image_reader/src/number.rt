@@ -2,9 +2,9 @@
 // Its packet and messages are returned as parts of its octets.
 ghost use Rattle.std.specs.Prelude.{◌≡◌, ◌+◌, ◌*◌, ◌<◌, ◌≤◌, length, slice_index};
 ghost use Rattle.image.specs.Layout.{from_base};
-ghost use Rattle.image_reader.specs.Number.{TailTold, NumberTold, NoTail, NoNumber};
+ghost use Rattle.image_reader.specs.Number.{TailTold, NumberTold};
 
-use crate::items::{Item, item_at, items_at};
+use crate::items::{item_at, items_at};
 use datagram::{Parity, Part};
 use session_held::Session;
 
@@ -13,19 +13,17 @@ const COVERED: u16 = Parity::PACKETS as u16;
 
 const FEW: u16 = Parity::MESSAGES as u16;
 
-// What follows the packet, and whether it reads.
+// What follows the packet.
 #[derive(Drop)]
 pub struct Tail {
-    pub read: bool,
     pub n: u16,
     pub m: u16,
     pub parts: [Part; Parity::MESSAGES],
 }
 
-// A line, and whether it reads.
+// A line.
 #[derive(Drop)]
 pub struct Number {
-    pub read: bool,
     pub state: u16,
     pub mark: u16,
     pub note: u16,
@@ -40,125 +38,72 @@ fn octet(s: &[u8], at: usize) -> u16
     requires { at < length s.now }
     ensures { result ≡ slice_index s.now at }
 {
-    let octet = length::wide(s[at]);
-    octet as u16
+    u16::from(s[at])
 }
 
 // Two octets as a number, the high one first.
 pub fn two(high: u8, low: u8) -> u16
     ensures { result ≡ high * 256 + low }
 {
-    (high as u16) * 256 + (low as u16)
+    u16::from(high) * 256 + u16::from(low)
 }
 
 // The greatest value that a line may have: before the base it is 0.
 fn from_base(ahead: bool, most: u16) -> u16
     ensures { result ≡ from_base ahead most }
 {
-    if ahead {
-        return most;
-    }
-    0
-}
-
-// A misshapen line.
-fn no_tail() -> Tail
-    ensures { NoTail result }
-{
-    let nowhere = Part { start: 0, size: 0 };
-    Tail {
-        read: false,
-        n: 0,
-        m: 0,
-        parts: [nowhere; Parity::MESSAGES],
-    }
-}
-
-fn no_number() -> Number
-    ensures { NoNumber result }
-{
-    let nowhere = Part { start: 0, size: 0 };
-    Number {
-        read: false,
-        state: 0,
-        mark: 0,
-        note: 0,
-        packet: nowhere,
-        n: 0,
-        m: 0,
-        parts: [nowhere; Parity::MESSAGES],
-    }
+    if ahead { most } else { 0 }
 }
 
 // n, m and m messages, and nothing after them.
-fn tail_at(s: &[u8], at: usize, limit: usize, ahead: bool) -> Tail
+fn tail_at(s: &[u8], at: usize, limit: usize, ahead: bool) -> Option<Tail>
     requires { at ≤ length s.now }
     ensures { TailTold limit ahead s.now at result }
 {
     if s.len() - at < 2 {
-        return no_tail();
+        return None;
     }
     let n = octet(s, at);
     if from_base(ahead, COVERED) < n {
-        return no_tail();
+        return None;
     }
     let m = octet(s, at + 1);
     if from_base(ahead, FEW) < m {
-        return no_tail();
+        return None;
     }
-    let items = items_at(s, at + 2, octets::wide(m), limit);
-    let read = items.read;
-    let end = items.end;
-    if !read {
-        return no_tail();
-    }
-    if end != s.len() {
-        return no_tail();
+    let items = items_at(s, at + 2, usize::from(m), limit)?;
+    if items.end != s.len() {
+        return None;
     }
     let parts = items.parts;
-    Tail {
-        read: true,
-        n,
-        m,
-        parts,
-    }
+    Some(Tail { n, m, parts })
 }
 
 // The number whose line has these octets.
-pub fn number_in(s: &[u8], limit: usize, ahead: bool) -> Number
+pub fn number_in(s: &[u8], limit: usize, ahead: bool) -> Option<Number>
     ensures { NumberTold limit ahead s.now result }
 {
     if s.len() < 4 {
-        return no_number();
+        return None;
     }
     let state = octet(s, 0);
     if Session::BLANK < state {
-        return no_number();
+        return None;
     }
     let mark = octet(s, 1);
     if from_base(ahead, 1) < mark {
-        return no_number();
+        return None;
     }
     let note = two(s[2], s[3]);
-    match item_at(s, 4, limit) {
-        Item::Misshapen => no_number(),
-        Item::Found(packet) => {
-            let at = packet.start + packet.size;
-            let tail = tail_at(s, at, limit, ahead);
-            let read = tail.read;
-            let n = tail.n;
-            let m = tail.m;
-            let parts = tail.parts;
-            Number {
-                read,
-                state,
-                mark,
-                note,
-                packet,
-                n,
-                m,
-                parts,
-            }
-        }
-    }
+    let packet = item_at(s, 4, limit)?;
+    let Tail { n, m, parts } = tail_at(s, packet.start + packet.size, limit, ahead)?;
+    Some(Number {
+        state,
+        mark,
+        note,
+        packet,
+        n,
+        m,
+        parts,
+    })
 }

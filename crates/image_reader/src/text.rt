@@ -9,13 +9,6 @@ ghost use Rattle.image_reader.specs.Text.{upper_at, UpperTo, UpperRun, LineTaken
 use line::Line;
 use line_hex::pair_up;
 
-// The line at the front of a text: how many octets it has, and how many characters with its line feed.
-#[derive(Drop)]
-pub enum Taken {
-    Octets(usize, usize),
-    Misshapen,
-}
-
 // Whether a character is an upper-case digit.
 fn is_upper(c: u8) -> bool
     ensures { result ≡ upper_digit c }
@@ -31,10 +24,8 @@ fn is_near(s: &[u8], at: usize) -> bool
     ensures { result ≡ all_below looked_at (upper_at s.now at) }
 {
     let mut all = true;
-    let mut j = 0;
-    while j < Line::NEAR {
+    for j in 0..Line::NEAR {
         all = all & is_upper(s[at + j]);
-        j += 1;
     }
     all
 }
@@ -44,14 +35,12 @@ fn run_from(s: &[u8], from: usize) -> usize
     requires { UpperTo s.now from }
     ensures { UpperRun s.now result }
 {
-    let mut at = from;
-    while at < s.len() {
+    for at in from..s.len() {
         if !is_upper(s[at]) {
             return at;
         }
-        at += 1;
     }
-    at
+    s.len()
 }
 
 // Where the upper-case digits at the front end.
@@ -59,6 +48,7 @@ fn upper_run(s: &[u8]) -> usize
     ensures { UpperRun s.now result }
 {
     let mut at = 0;
+    // The place moves by as many characters as are checked together.
     while Line::NEAR <= s.len() - at {
         if !is_near(s, at) {
             return run_from(s, at);
@@ -68,46 +58,37 @@ fn upper_run(s: &[u8]) -> usize
     run_from(s, at)
 }
 
-// The line at the front of a text; its octets go to the front of out.
-pub fn take_line(text: &[u8], out: &mut [u8]) -> Taken
+// The line at the front of a text: how many octets it has, and how many characters with its line feed. The octets go to the front of out.
+pub fn take_line(text: &[u8], out: &mut [u8]) -> Option<(usize, usize)>
     ensures { LineTaken text.now out.old out.new result }
 {
     let stop = upper_run(text);
     if text.len() <= stop {
-        return Taken::Misshapen;
+        return None;
     }
     if text[stop] != Line::FEED {
-        return Taken::Misshapen;
+        return None;
     }
     let odd = stop % 2;
     if odd != 0 {
-        return Taken::Misshapen;
+        return None;
     }
     let count = stop / 2;
     if out.len() < count {
-        return Taken::Misshapen;
+        return None;
     }
     pair_up(&text[..stop], out);
-    let next = stop + 1;
-    Taken::Octets(count, next)
+    Some((count, stop + 1))
 }
 
-// The version that a text names.
-#[derive(Drop)]
-pub enum Named {
-    Octet(u8),
-    Nothing,
-}
-
-// The version octet can be read if the first two characters are upper-case digits (rule 20.12).
-pub fn edition_named(text: &[u8]) -> Named
+// The octet of the version that a text names. It can be read if the first two characters are upper-case digits (rule 20.12).
+pub fn edition_named(text: &[u8]) -> Option<u8>
     ensures { EditionTold text.now result }
 {
-    let digits = upper_run(text);
-    if digits < 2 {
-        return Named::Nothing;
+    if upper_run(text) < 2 {
+        return None;
     }
     let mut octet = [0u8];
     pair_up(&text[..2], &mut octet);
-    Named::Octet(octet[0])
+    Some(octet[0])
 }

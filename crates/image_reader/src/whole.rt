@@ -6,28 +6,20 @@ ghost use Rattle.session.specs.Cells.{kept_ahead};
 ghost use Rattle.image.specs.Parts.{high_first};
 ghost use Rattle.image.specs.Image.{number_line_limit};
 ghost use Rattle.image_reader.specs.Laying.{Lengths};
-ghost use Rattle.image_reader.specs.Whole.{FirstImageTold, FirstLineTold, LineTold, LinesTold, NoFirst, Cleared, CoreTold};
+ghost use Rattle.image_reader.specs.Whole.{FirstImageTold, FirstLineTold, LineTold, LinesTold, Cleared, CoreTold};
 
 use crate::laying::lay;
 use crate::number::{number_in, two};
-use crate::text::{Taken, take_line};
+use crate::text::take_line;
 use image::Image;
 use session_held::{Counts, Session};
 
-// The first line, and whether it reads.
+// The first line, and where it ends.
 #[derive(Drop)]
 pub struct First {
-    pub read: bool,
     pub base: u16,
     pub counts: Counts,
     pub end: usize,
-}
-
-// How far a text was read.
-#[derive(Drop)]
-pub enum Reached {
-    At(usize),
-    Misshapen,
 }
 
 // Four octets as a number, the high one first.
@@ -35,66 +27,40 @@ fn four(s: &[u8], at: usize) -> u32
     requires { at + 4 ≤ length s.now }
     ensures { result ≡ high_first 4 (drop at s.now) }
 {
-    let high = two(s[at], s[at + 1]) as u32;
-    let low = two(s[at + 2], s[at + 3]) as u32;
+    let high = u32::from(two(s[at], s[at + 1]));
+    let low = u32::from(two(s[at + 2], s[at + 3]));
     high * 65536 + low
 }
 
-fn no_first() -> First
-    ensures { NoFirst result }
-{
-    let counts = Counts {
-        received: 0,
-        spare: 0,
-        repaired: 0,
-        lost: 0,
-    };
-    First {
-        read: false,
-        base: 0,
-        counts,
-        end: 0,
-    }
-}
-
 // Version octet, base in two octets, the four counts in four octets each, high first (rule 20.2).
-fn first_in(s: &[u8], edition: u8, end: usize) -> First
+fn first_in(s: &[u8], edition: u8, end: usize) -> Option<First>
     ensures { FirstImageTold edition s.now end result }
 {
     if s.len() != Image::FIRST {
-        return no_first();
+        return None;
     }
     if s[0] != edition {
-        return no_first();
+        return None;
     }
-    let base = two(s[1], s[2]);
-    let received = four(s, 3);
-    let spare = four(s, 7);
-    let repaired = four(s, 11);
-    let lost = four(s, 15);
-    let counts = Counts {
-        received,
-        spare,
-        repaired,
-        lost,
-    };
-    First {
-        read: true,
-        base,
-        counts,
+    Some(First {
+        base: two(s[1], s[2]),
+        counts: Counts {
+            received: four(s, 3),
+            spare: four(s, 7),
+            repaired: four(s, 11),
+            lost: four(s, 15),
+        },
         end,
-    }
+    })
 }
 
 // The first line of a text.
-fn first_line(text: &[u8], edition: u8) -> First
+fn first_line(text: &[u8], edition: u8) -> Option<First>
     ensures { FirstLineTold edition text.now result }
 {
     let mut line = [0u8; Image::FIRST];
-    match take_line(text, &mut line) {
-        Taken::Misshapen => no_first(),
-        Taken::Octets(count, next) => first_in(&line[..count], edition, next),
-    }
+    let (count, next) = take_line(text, &mut line)?;
+    first_in(&line[..count], edition, next)
 }
 
 // The line of the k-th number before the base, or from the base on, at the front of a text.
@@ -108,7 +74,7 @@ fn read_line(
     table: &mut [u16],
     octets: &mut [u8],
     messages: &mut [u8],
-) -> Reached
+) -> Option<usize>
     requires limit_le_packet_limit { limit ≤ packet_limit }
     requires k_lt_kept_ahead { k < kept_ahead }
     requires line_len { length line.old ≡ number_line_limit packet_limit }
@@ -116,27 +82,19 @@ fn read_line(
     ensures { LineTold limit ahead base k text.now table.old octets.old messages.old
         table.new octets.new messages.new result }
 {
-    match take_line(text, line) {
-        Taken::Misshapen => Reached::Misshapen,
-        Taken::Octets(count, next) => {
-            let number = number_in(&line[..count], limit, ahead);
-            let read = number.read;
-            if !read {
-                return Reached::Misshapen;
-            }
-            lay(
-                base,
-                ahead,
-                k,
-                &line[..count],
-                number,
-                table,
-                octets,
-                messages,
-            );
-            Reached::At(next)
-        }
-    }
+    let (count, next) = take_line(text, line)?;
+    let number = number_in(&line[..count], limit, ahead)?;
+    lay(
+        base,
+        ahead,
+        k,
+        &line[..count],
+        number,
+        table,
+        octets,
+        messages,
+    );
+    Some(next)
 }
 
 // The lines before the base, or those from the base on.
@@ -149,7 +107,7 @@ fn read_lines(
     table: &mut [u16],
     octets: &mut [u8],
     messages: &mut [u8],
-) -> Reached
+) -> Option<usize>
     requires from_in_bounds { from ≤ length text.now }
     requires limit_le_packet_limit { limit ≤ packet_limit }
     requires lengths { Lengths table.old octets.old messages.old }
@@ -158,9 +116,8 @@ fn read_lines(
 {
     let mut line = [0u8; Image::LINE];
     let mut at = from;
-    let mut k = 0;
-    while k < Session::HEARD {
-        match read_line(
+    for k in 0..Session::HEARD {
+        let taken = read_line(
             &text[at..],
             limit,
             ahead,
@@ -170,17 +127,10 @@ fn read_lines(
             table,
             octets,
             messages,
-        ) {
-            Reached::Misshapen => {
-                return Reached::Misshapen;
-            }
-            Reached::At(taken) => {
-                at += taken;
-            }
-        }
-        k += 1;
+        )?;
+        at += taken;
     }
-    Reached::At(at)
+    Some(at)
 }
 
 // A text as an image of that version, with packets and messages of at most `limit` octets, into a table and stores that hold zeros.
@@ -191,28 +141,17 @@ pub fn read_core(
     table: &mut [u16],
     octets: &mut [u8],
     messages: &mut [u8],
-) -> First
+) -> Option<First>
     requires limit_le_packet_limit { limit ≤ packet_limit }
     requires cleared { Cleared table.old octets.old messages.old }
     ensures { CoreTold edition limit text.now table.new octets.new messages.new result }
 {
-    let first = first_line(text, edition);
-    let read = first.read;
+    let first = first_line(text, edition)?;
     let base = first.base;
-    let start = first.end;
-    if !read {
-        return no_first();
-    }
-    let Reached::At(middle) = read_lines(text, start, limit, false, base, table, octets, messages)
-    else {
-        return no_first();
-    };
-    let Reached::At(end) = read_lines(text, middle, limit, true, base, table, octets, messages)
-    else {
-        return no_first();
-    };
+    let middle = read_lines(text, first.end, limit, false, base, table, octets, messages)?;
+    let end = read_lines(text, middle, limit, true, base, table, octets, messages)?;
     if end < text.len() {
-        return no_first();
+        return None;
     }
-    first
+    Some(first)
 }

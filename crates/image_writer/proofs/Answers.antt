@@ -1,4 +1,5 @@
 -- The answers of the call: 17, then 13, and what is written. Assumes nothing.
+use Rattle.std.proofs.Common.{Ok, Err}
 use Prim.Native.Nat.{ℕ, ◌+◌, ◌≤◌, ◌<◌}
 use mathlib.Core.Path.{◌≡◌, refl, sym, ap, ◌∙◌}
 use mathlib.Core.Bool.{Bool, true, false, not}
@@ -10,7 +11,6 @@ use Rattle.length.specs.Answers.{done}
 use Rattle.length.specs.Tables.{unless}
 use Rattle.length.specs.Promise.{Put, Puts, RefusalMade}
 use Rattle.length.specs.declared.Refusal.{Refusal}
-use Rattle.length.specs.declared.Written.TheVariants as written
 use Rattle.length.proofs.Laws.{put-puts, full-puts}
 use Rattle.session_held.specs.Slots.{kept_octets, message_octets}
 use Rattle.session_held.specs.Table.{Lent, places}
@@ -55,7 +55,7 @@ whole_text session =
 
 module _ (session : Lent) {ok : Bool} (told : ok ≡ lent_in_ranges session) where
   pub write-outside : {old : List ℕ} {why : Refusal} → RefusalMade outside_ranges why → not ok ≡ true
-      → Puts (image_to_write version_written session) old old (written.Refused why)
+      → Puts (image_to_write version_written session) old old (Err why)
   unfolding image_to_write unless
   write-outside made out =
       let outside : lent_in_ranges session ≡ false = sym told ∙ is_false ok out in
@@ -91,7 +91,7 @@ module _ (session : Lent) {ok : Bool} (told : ok ≡ lent_in_ranges session) whe
           )
 
       pub write-full : {old : List ℕ} {why : Refusal} → RefusalMade no_room why → length old < line_size first_image_size + size
-          → Puts (image_to_write version_written session) old old (written.Refused why)
+          → Puts (image_to_write version_written session) old old (Err why)
       write-full made full = rw to_write (full-puts made (omega (arith, whole_long)))
 
       pub write-room : {old : List ℕ} → line_size first_image_size + size ≤ length old → Room (whole_text session) old 0
@@ -100,5 +100,5 @@ module _ (session : Lent) {ok : Bool} (told : ok ≡ lent_in_ranges session) whe
     pub write_done : {old middle new : List ℕ} {at end : ℕ}
         → Appends (first_text version_written.octet session.base session.counts) old 0 middle at
         → Appends (rows_text session.base session.table session.octets session.messages) middle at new end
-        → Puts (image_to_write version_written session) old new (written.Octets end)
+        → Puts (image_to_write version_written session) old new (Ok end)
     write_done first rows = rw to_write (put-puts (front-put (appends-then first rows)))

@@ -13,13 +13,13 @@ ghost use Rattle.image.specs.Image.{image_to_write};
 ghost use Rattle.image.specs.Promise.{ImageWritten};
 
 use image::Image;
-use length::{Refusal, Written};
+use length::{Reason, Refusal};
 use numbers::{put_first, put_rows};
 use rows::rows_size;
 use session_held::{Counts, Session};
 
 // The session's image to the front of out: 17 if the session is outside its ranges, then 13 if the image is longer than out.
-pub fn write(s: Session, out: &mut [u8]) -> Written
+pub fn write(s: Session, out: &mut [u8]) -> Result<usize, Refusal>
     ensures { ImageWritten s out.old out.new result }
 {
     let base = s.base;
@@ -39,7 +39,7 @@ pub fn write_core(
     octets: &[u8],
     messages: &[u8],
     out: &mut [u8],
-) -> Written
+) -> Result<usize, Refusal>
     requires table_len { length table.now ≡ places }
     requires octets_len { length octets.now ≡ kept_octets }
     requires messages_len { length messages.now ≡ message_octets }
@@ -47,13 +47,13 @@ pub fn write_core(
         messages.now)) out.old out.new result }
 {
     if !session_check::in_ranges(base, counts, table, octets, messages) {
-        return Written::Refused(Refusal::new(Refusal::OUTSIDE_RANGES));
+        return Err(Refusal::new(Reason::OutsideRanges));
     }
     let size = 2 * Image::FIRST + 1 + rows_size(base, table);
     if out.len() < size {
-        return Written::Refused(Refusal::new(Refusal::NO_ROOM));
+        return Err(Refusal::new(Reason::NoRoom));
     }
     let first = put_first(base, counts, out, 0);
     let end = put_rows(base, table, octets, messages, out, first);
-    Written::Octets(end)
+    Ok(end)
 }

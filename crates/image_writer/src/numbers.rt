@@ -108,12 +108,10 @@ fn put_messages(
     ensures { Appends (messages_text table.now messages.now heard m) out.old at out.new result }
 {
     let mut end = at;
-    let mut i = 0;
-    while i < m {
+    for i in 0..m {
         let slot = heard * Parity::MESSAGES + i;
         let size = session_held::message_size_at(table, slot);
         end = put_item(messages, slot, size, out, end);
-        i += 1;
     }
     end
 }
@@ -161,11 +159,9 @@ pub fn put_rows(
         out.new result }
 {
     let mut end = at;
-    let mut p = 0;
-    while p < Session::KEPT {
+    for p in 0..Session::KEPT {
         let row = row_at(base, table, p);
         end = put_row(table, octets, messages, row, out, end);
-        p += 1;
     }
     end
 }

@@ -58,11 +58,9 @@ fn messages_size(table: &[u16], heard: usize, m: usize) -> usize
     ensures { SizeWithin (messages_size table.now heard m) (messages_limit * (2 * longest_item packet_limit)) result }
 {
     let mut size = 0;
-    let mut i = 0;
-    while i < m {
+    for i in 0..m {
         let octets = session_held::message_size_at(table, heard * Parity::MESSAGES + i);
         size += 2 * item_size(octets);
-        i += 1;
     }
     size
 }
@@ -86,11 +84,9 @@ pub fn rows_size(base: u16, table: &[u16]) -> usize
     ensures { SizeWithin (rows_size base table.now) (slots_kept * line_size (number_line_limit packet_limit)) result }
 {
     let mut size = 0;
-    let mut p = 0;
-    while p < Session::KEPT {
+    for p in 0..Session::KEPT {
         let row = row_at(base, table, p);
         size += row_size(table, row);
-        p += 1;
     }
     size
 }

@@ -10,6 +10,7 @@ use native.Mathlib.Omega.{arith}
 use borrow.Author.Tests.{le-leb, leb-true}
 use Rattle.length.specs.Refusals.{refusal, refusal_at, ends_early, bad_form, outside_sizes}
 use Rattle.length.specs.Answers.{Answer, done, refused, refuse, refuse_at, read_from, ◌>>=◌, LengthAnswer}
+use Rattle.length.specs.declared.Reason.{Reason}
 use Rattle.length.specs.declared.Refusal.{Refusal}
 use Rattle.length.specs.Length.{within, allowed, length_at, length_within, length_octets, length_limit, two_from, of_two}
 use Rattle.length.proofs.LengthRule.{written-reads, Sizes, sizes-read}
@@ -32,7 +33,7 @@ pub cond-past : {A : Type 0} (t : Bool) (why : Refusal) (m : Answer A) (a : A) �
 cond-past true why m a e = absurd (not_done e)
 cond-past false why m a e = (refl, e)
 
-pub cond-done : {A : Type 0} (t : Bool) (n : ℕ) (m : Answer A) (a : A) → cond t (refuse n) m ≡ done a → (t ≡ false) × (m ≡ done a)
+pub cond-done : {A : Type 0} (t : Bool) (n : Reason) (m : Answer A) (a : A) → cond t (refuse n) m ≡ done a → (t ≡ false) × (m ≡ done a)
 cond-done t n m a e = cond-past t (refusal n) m a e
 
 -- the same of a test that must be met
@@ -40,7 +41,7 @@ pub cond-kept : {A : Type 0} (t : Bool) (why : Refusal) (m : Answer A) (a : A) �
 cond-kept true why m a e = (refl, e)
 cond-kept false why m a e = absurd (not_done e)
 
-pub cond-met : {A : Type 0} (t : Bool) (n : ℕ) (m : Answer A) (a : A) → cond t m (refuse n) ≡ done a → (t ≡ true) × (m ≡ done a)
+pub cond-met : {A : Type 0} (t : Bool) (n : Reason) (m : Answer A) (a : A) → cond t m (refuse n) ≡ done a → (t ≡ true) × (m ≡ done a)
 cond-met t n m a e = cond-kept t (refusal n) m a e
 
 pub done-same : {A : Type 0} {a b : A} → done a ≡ done b → a ≡ b
@@ -55,19 +56,19 @@ from-done start (done b) a e = e
 from-done start (refused why) a e = absurd (not_done e)
 
 -- a refusal at the front is one at that octet
-pub from_front : {A : Type 0} (start n : ℕ) → read_from {A = A} start (refuse n) ≡ refuse_at start n
+pub from_front : {A : Type 0} (start : ℕ) (n : Reason) → read_from {A = A} start (refuse n) ≡ refuse_at start n
 from_front start n = ap (λ (p : ℕ). refused (refusal_at p n)) (omega arith)
 
 -- twice is once, from both octets together
 pub from-from : {A : Type 0} (a b : ℕ) (m : Answer A) → read_from a (read_from b m) ≡ read_from (a + b) m
 from-from a b (done x) = refl
-from-from a b (refused why) = ap (λ (p : ℕ). refused (refusal_at p why.number)) (omega arith)
+from-from a b (refused why) = ap (λ (p : ℕ). refused (refusal_at p why.reason)) (omega arith)
 
 -- a refusal at the front: its place is 0
 pub record AtFront {A : Type 0} (m : Answer A) : Type 0 where
   pub front : (why : Refusal) → m ≡ refused why → why.place ≡ 0
 
-pub refuse-front : {A : Type 0} (n : ℕ) → AtFront {A = A} (refuse n)
+pub refuse-front : {A : Type 0} (n : Reason) → AtFront {A = A} (refuse n)
 refuse-front n = record { front = λ why e. let same : refusal n ≡ why = refused-same e in ap (λ (r : Refusal). r.place) (sym same) }
 
 pub done-front : {A : Type 0} (a : A) → AtFront (done a)

@@ -12,6 +12,7 @@ number-cases =
       to-15 = refl;
       to-18 = refl;
       to-23 = refl;
+      names = refl;
     }
 
 read-cases : ReadCases

@@ -1,5 +1,6 @@
 -- Laws of `Put`, octets written to the front of a lent part: none, one more, and a writer after another, lent what is still
 -- free after the last. Whoever writes item by item composes its writers by `put_next`. Assumes nothing.
+use Rattle.std.proofs.Common.{Ok, Err}
 use Prim.Native.Nat.{ℕ, suc, ◌+◌, ◌-◌, ◌≤◌, ◌<◌}
 use mathlib.Core.Path.{◌≡◌, refl, sym}
 use mathlib.Core.List.{List, [], ◌∷◌, ◌++◌, append_assoc, append-nil}
@@ -13,7 +14,6 @@ use Rattle.length.specs.Refusals.{no_room}
 use Rattle.length.specs.Answers.{done}
 use Rattle.length.specs.Promise.{Puts, RefusalMade, Put}
 use Rattle.length.specs.declared.Refusal.{Refusal}
-use Rattle.length.specs.declared.Written.TheVariants as written
 
 -- ---- none, one more
 pub put-none : {old : List ℕ} → Put [] old old 0
@@ -78,13 +78,13 @@ put-long {octets} {old} p =
     rw (p.lent, length-append octets (drop (length octets) old), length-drop (length octets) old) (let room = p.inside in omega arith)
 
 -- ---- a call's whole promise: what is put where it has room, and 13 where it has none
-pub put-puts : {octets old new : List ℕ} {n : ℕ} → Put octets old new n → Puts (done octets) old new (written.Octets n)
+pub put-puts : {octets old new : List ℕ} {n : ℕ} → Put octets old new n → Puts (done octets) old new (Ok n)
 put-puts {octets} {old} p =
     let fits = le-leb (length octets) (length old) p.inside in
     record { answer = rw (fits, p.answer); lent = rw fits p.lent }
 
 pub full-puts : {octets old : List ℕ} {r : Refusal} → RefusalMade no_room r → length old < length octets
-    → Puts (done octets) old old (written.Refused r)
+    → Puts (done octets) old old (Err r)
 full-puts {octets} {old} made full =
     let short = lt-leb (length octets) (length old) full in
     record { answer = rw (short, made.answer); lent = rw short }

@@ -1,4 +1,5 @@
 -- Laws of tables of refusals: a test that refuses is a row, and so are steps one after the other. Assumes nothing.
+use Rattle.std.proofs.Common.{Result}
 use Prim.Native.Nat.{ℕ}
 use mathlib.Core.Path.{◌≡◌, refl, sym, ap, ◌∙◌}
 use mathlib.Core.Bool.{Bool, true, false, not, cond}
@@ -10,26 +11,26 @@ use native.Mathlib.Omega.{arith}
 use Rattle.length.specs.Refusals.{no_room}
 use Rattle.length.specs.Answers.{Answer, done, refused, refuse, ◌>>=◌, mapped, fitted, size_of, written_outcome}
 use Rattle.length.specs.Promise.{Puts}
+use Rattle.length.specs.declared.Reason.{Reason}
 use Rattle.length.specs.declared.Refusal.{Refusal}
-use Rattle.length.specs.declared.Written.{Written}
 use Rattle.length.specs.Tables.{when, first, unless, refusal_in, place_in, room_row}
 use Rattle.length.proofs.Answers.{AtFront, refuse-front, done-front, cond-front}
 
 -- a test that refuses, and one that must be met
-pub row : {A : Type 0} (b : Bool) (n : ℕ) (m : Answer A) (rows : List (Option ℕ)) → refusal_in m ≡ first rows
+pub row : {A : Type 0} (b : Bool) (n : Reason) (m : Answer A) (rows : List (Option Reason)) → refusal_in m ≡ first rows
     → refusal_in (cond b (refuse n) m) ≡ first (when b n ∷ rows)
 unfolding first
 row true n m rows e = refl
 row false n m rows e = e
 
-pub row-met : {A : Type 0} (b : Bool) (n : ℕ) (m : Answer A) (rows : List (Option ℕ)) → refusal_in m ≡ first rows
+pub row-met : {A : Type 0} (b : Bool) (n : Reason) (m : Answer A) (rows : List (Option Reason)) → refusal_in m ≡ first rows
     → refusal_in (cond b m (refuse n)) ≡ first (when (not b) n ∷ rows)
 unfolding first
 row-met true n m rows e = e
 row-met false n m rows e = refl
 
 -- a step, and what follows it
-pub row_step : {A B : Type 0} (m : Answer A) (f : A → Answer B) (rows : List (Option ℕ))
+pub row_step : {A B : Type 0} (m : Answer A) (f : A → Answer B) (rows : List (Option Reason))
     → ((a : A) → m ≡ done a → refusal_in (f a) ≡ first rows)
     → refusal_in (◌>>=◌ m f) ≡ first (refusal_in m ∷ rows)
 unfolding first
@@ -43,34 +44,34 @@ no_row = refl
 
 -- ---- a call by its table
 -- its refusal is the first row that is given
-pub unless-first : {A : Type 0} (rows : List (Option ℕ)) (a : A) → refusal_in (unless rows a) ≡ first rows
+pub unless-first : {A : Type 0} (rows : List (Option Reason)) (a : A) → refusal_in (unless rows a) ≡ first rows
 unfolding first unless
 unless-first [] a = refl
 unless-first (some number ∷ rows) a = refl
 unless-first (none ∷ rows) a = unless-first rows a
 
 -- where it is done, it answers a
-pub unless-done : {A : Type 0} (rows : List (Option ℕ)) (a x : A) → unless rows a ≡ done x → x ≡ a
+pub unless-done : {A : Type 0} (rows : List (Option Reason)) (a x : A) → unless rows a ≡ done x → x ≡ a
 unfolding unless
 unless-done [] a x e = cc
 unless-done (some number ∷ rows) a x e = let z : ◌≡◌ {A = ℕ} 0 1 = cc in absurd (omega arith)
 unless-done (none ∷ rows) a x e = unless-done rows a x e
 
 -- and then a row's condition was not met
-pub unless-past : {A : Type 0} (b : Bool) (number : ℕ) (rows : List (Option ℕ)) (a x : A) → unless (when b number ∷ rows) a ≡ done x
+pub unless-past : {A : Type 0} (b : Bool) (number : Reason) (rows : List (Option Reason)) (a x : A) → unless (when b number ∷ rows) a ≡ done x
     → (b ≡ false) × (unless rows a ≡ done x)
 unfolding unless
 unless-past true number rows a x e = let z : ◌≡◌ {A = ℕ} 0 1 = cc in absurd (omega arith)
 unless-past false number rows a x e = (refl, e)
 
 -- ---- the last row of every writer: 13
-first-none : (rows more : List (Option ℕ)) → none ≡ first rows → first (rows ++ more) ≡ first more
+first-none : (rows more : List (Option Reason)) → none ≡ first rows → first (rows ++ more) ≡ first more
 unfolding first
 first-none [] more e = refl
 first-none (some n ∷ rows) more e = let z : ◌≡◌ {A = ℕ} 0 1 = cc in absurd (omega arith)
 first-none (none ∷ rows) more e = first-none rows more e
 
-first_some : (rows more : List (Option ℕ)) (n : ℕ) → some n ≡ first rows → some n ≡ first (rows ++ more)
+first_some : (rows more : List (Option Reason)) (n : Reason) → some n ≡ first rows → some n ≡ first (rows ++ more)
 unfolding first
 first_some [] more n e = let z : ◌≡◌ {A = ℕ} 0 1 = cc in absurd (omega arith)
 first_some (some k ∷ rows) more n e = e
@@ -81,17 +82,17 @@ unfolding first
 last_row true octets = refl
 last_row false octets = refl
 
-row-fitted : (w : Answer (List ℕ)) (octets old : List ℕ) (rows : List (Option ℕ)) → ((x : List ℕ) → w ≡ done x → x ≡ octets)
+row-fitted : (w : Answer (List ℕ)) (octets old : List ℕ) (rows : List (Option Reason)) → ((x : List ℕ) → w ≡ done x → x ≡ octets)
     → refusal_in w ≡ first rows → refusal_in (fitted w old) ≡ first (rows ++ room_row octets old)
 row-fitted (done x) octets old rows same e =
     let is : x ≡ octets = same x refl in
     ap (λ (o : List ℕ). refusal_in (fitted (done o) old)) is
     ∙ last_row (leb (length octets) (length old)) octets
     ∙ sym (first-none rows (room_row octets old) e)
-row-fitted (refused why) octets old rows same e = first_some rows (room_row octets old) why.number e
+row-fitted (refused why) octets old rows same e = first_some rows (room_row octets old) why.reason e
 
 -- so of a writer by its table
-pub fitted-first : (rows : List (Option ℕ)) (octets old : List ℕ)
+pub fitted-first : (rows : List (Option Reason)) (octets old : List ℕ)
     → refusal_in (fitted (unless rows octets) old) ≡ first (rows ++ room_row octets old)
 fitted-first rows octets old = row-fitted (unless rows octets) octets old rows (unless-done rows octets) (unless-first rows octets)
 
@@ -100,12 +101,12 @@ pub size-refusal : (w : Answer (List ℕ)) → refusal_in (size_of w) ≡ refusa
 size-refusal (done octets) = refl
 size-refusal (refused why) = refl
 
-pub puts-refusal : {w : Answer (List ℕ)} {old new : List ℕ} {r : Written} → Puts w old new r
+pub puts-refusal : {w : Answer (List ℕ)} {old new : List ℕ} {r : Result ℕ Refusal} → Puts w old new r
     → refusal_in (written_outcome r) ≡ refusal_in (fitted w old)
 puts-refusal {w} {old} p = ap refusal_in p.answer ∙ size-refusal (fitted w old)
 
--- a refusal, by its number
-pub refused-some : {A : Type 0} (m : Answer A) (n : ℕ) → refusal_in m ≡ some n
+-- a refusal, by its reason
+pub refused-some : {A : Type 0} (m : Answer A) (n : Reason) → refusal_in m ≡ some n
     → (why : Refusal) × (m ≡ refused why)
 refused-some (done a) n e = let z : ◌≡◌ {A = ℕ} 0 1 = cc in absurd (omega arith)
 refused-some (refused why) n e = (why, refl)
@@ -115,7 +116,7 @@ done_none (done a) e = (a, refl)
 done_none (refused why) e = let z : ◌≡◌ {A = ℕ} 0 1 = cc in absurd (omega arith)
 
 -- ---- where: a table's refusals give no place
-pub unless-front : {A : Type 0} (rows : List (Option ℕ)) (a : A) → AtFront (unless rows a)
+pub unless-front : {A : Type 0} (rows : List (Option Reason)) (a : A) → AtFront (unless rows a)
 unfolding unless
 unless-front [] a = done-front a
 unless-front (some number ∷ rows) a = refuse-front number
@@ -133,6 +134,6 @@ pub mapped-place : {A B : Type 0} (f : A → B) (m : Answer A) → place_in (map
 mapped-place f (done a) = refl
 mapped-place f (refused why) = refl
 
-pub puts-place : {w : Answer (List ℕ)} {old new : List ℕ} {r : Written} → AtFront w → Puts w old new r → place_in (written_outcome r) ≡ 0
+pub puts-place : {w : Answer (List ℕ)} {old new : List ℕ} {r : Result ℕ Refusal} → AtFront w → Puts w old new r → place_in (written_outcome r) ≡ 0
 puts-place {w} {old} front p =
     ap place_in p.answer ∙ mapped-place length (fitted w old) ∙ front-place (fitted w old) (fitted-front w old front)

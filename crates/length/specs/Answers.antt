@@ -1,25 +1,23 @@
--- What a call returns: its values, or a refusal (rules 2.24 to 2.26); and what each case of the answer enums of this crate means (rule
--- 30.10). Definitions only.
-use Rattle.std.specs.Prelude.{ℕ, Bool, true, false, cond, List, ◌++◌, length, drop, leb}
+-- What a call returns: its values, or a refusal (rules 2.24 to 2.26); and what each answer of this crate's calls means (rule 30.10).
+-- Definitions only.
+use Rattle.std.specs.Prelude.{ℕ, Bool, true, false, cond, List, ◌++◌, length, drop, leb, Result, Ok, Err}
 use Rattle.length.specs.Refusals.{refusal, refusal_at, further, ends_early, no_room}
+use Rattle.length.specs.declared.Reason.{Reason}
 use Rattle.length.specs.declared.Refusal.{Refusal}
 use Rattle.length.specs.declared.Length.{Length}
-use Rattle.length.specs.declared.Length.TheVariants as lengths
-use Rattle.length.specs.declared.Written.{Written}
-use Rattle.length.specs.declared.Written.TheVariants as written
 
 -- the values, or why the call is refused
 pub data Answer (A : Type 0) : Type 0 where
   done : A → Answer A
   refused : Refusal → Answer A
 
--- refusal n, with place 0
-abbrev pub refuse : {A : Type 0} → ℕ → Answer A
-refuse n = refused (refusal n)
+-- a refusal with place 0
+abbrev pub refuse : {A : Type 0} → Reason → Answer A
+refuse why = refused (refusal why)
 
--- refusal n of an item that begins at the octet `place`
-abbrev pub refuse_at : {A : Type 0} → ℕ → ℕ → Answer A
-refuse_at place n = refused (refusal_at place n)
+-- a refusal of an item that begins at the octet `place`
+abbrev pub refuse_at : {A : Type 0} → ℕ → Reason → Answer A
+refuse_at place why = refused (refusal_at place why)
 
 -- what is read from the octet `start` on: `start` is added to the place of a refusal (rule 2.31)
 abbrev pub read_from : {A : Type 0} → ℕ → Answer A → Answer A
@@ -52,19 +50,19 @@ pub record LengthAnswer : Type 0 where
   pub size : ℕ
 
 -- each case of the length reader's answer, as the rules' number and values (rule 30.10)
-abbrev pub length_outcome : Length → Answer LengthAnswer
-length_outcome (lengths.Value v n) = done (record { value = v; size = n })
-length_outcome (lengths.Refused r) = refused r
+abbrev pub length_outcome : Result Length Refusal → Answer LengthAnswer
+length_outcome (Ok l) = done (record { value = l.value; size = l.size })
+length_outcome (Err r) = refused r
 
--- why a length is refused; for a length that is not refused it is 1, which no caller uses
-abbrev pub refusal_of : Length → Refusal
-refusal_of (lengths.Value v n) = refusal ends_early
-refusal_of (lengths.Refused r) = r
+-- what a refused length says; for a length that is not refused it is 1, which no caller uses
+abbrev pub refusal_of : Result Length Refusal → Refusal
+refusal_of (Ok l) = refusal ends_early
+refusal_of (Err r) = r
 
 -- each case of a writer's answer, as the rules' number and value: how many octets were written (rule 30.10)
-abbrev pub written_outcome : Written → Answer ℕ
-written_outcome (written.Octets n) = done n
-written_outcome (written.Refused r) = refused r
+abbrev pub written_outcome : Result ℕ Refusal → Answer ℕ
+written_outcome (Ok n) = done n
+written_outcome (Err r) = refused r
 
 -- 13 if the result is longer than the caller's buffer (rule 2.13)
 abbrev pub fitted : Answer (List ℕ) → List ℕ → Answer (List ℕ)

@@ -1,24 +1,24 @@
 -- The numbers of the refusals, and small lengths, read and written: at a limit, or where a mistake would look right. Each case gives the
 -- one right answer, in octets and numbers. Definitions only.
-use Rattle.std.specs.Prelude.{ℕ, ◌≡◌, true, false, [], ◌∷◌}
+use Rattle.std.specs.Prelude.{ℕ, ◌≡◌, true, false, [], ◌∷◌, map, Ok, Err}
 use Rattle.std.proofs.Math.Option.{none, some}
 use Rattle.length.specs.Refusals.{ends_early, too_long, bad_form, outside_sizes, spare_bit, left_over, repeated, too_far, late}
 use Rattle.length.specs.Refusals.{base_unknown, not_assigned, no_room, wrong_data, wrong_settings, all_passed, outside_ranges}
-use Rattle.length.specs.Refusals.{frame_too_long, bad_image, other_edition, too_many_lines, no_solution}
+use Rattle.length.specs.Refusals.{frame_too_long, bad_image, other_edition, too_many_lines, no_solution, number_of, numbered}
 use Rattle.length.specs.Answers.{Answer, done, refused, read_from, is_done, afterwards, LengthAnswer, length_outcome, refusal_of}
 use Rattle.length.specs.Answers.{written_outcome, fitted, size_of, over}
 use Rattle.length.specs.Tables.{when, first, unless, refusal_in, place_in, room_row}
 use Rattle.length.specs.Length.{length_limit, length_at, length_within, length_to_write}
-use Rattle.length.specs.declared.Length.TheVariants as lengths
-use Rattle.length.specs.declared.Written.TheVariants as written
 
 -- rules 2.1 to 2.23: the number of each refusal; 11 is retired, and there is no 19
 pub record NumberCases : Type 0 where
-  pub to-6 : ends_early ∷ too_long ∷ bad_form ∷ outside_sizes ∷ spare_bit ∷ left_over ∷ [] ≡ 1 ∷ 2 ∷ 3 ∷ 4 ∷ 5 ∷ 6 ∷ []
-  pub to-10 : repeated ∷ too_far ∷ late ∷ base_unknown ∷ [] ≡ 7 ∷ 8 ∷ 9 ∷ 10 ∷ []
-  pub to-15 : not_assigned ∷ no_room ∷ wrong_data ∷ wrong_settings ∷ [] ≡ 12 ∷ 13 ∷ 14 ∷ 15 ∷ []
-  pub to-18 : all_passed ∷ outside_ranges ∷ frame_too_long ∷ [] ≡ 16 ∷ 17 ∷ 18 ∷ []
-  pub to-23 : bad_image ∷ other_edition ∷ too_many_lines ∷ no_solution ∷ [] ≡ 20 ∷ 21 ∷ 22 ∷ 23 ∷ []
+  pub to-6 : map number_of (ends_early ∷ too_long ∷ bad_form ∷ outside_sizes ∷ spare_bit ∷ left_over ∷ []) ≡ 1 ∷ 2 ∷ 3 ∷ 4 ∷ 5 ∷ 6 ∷ []
+  pub to-10 : map number_of (repeated ∷ too_far ∷ late ∷ base_unknown ∷ []) ≡ 7 ∷ 8 ∷ 9 ∷ 10 ∷ []
+  pub to-15 : map number_of (not_assigned ∷ no_room ∷ wrong_data ∷ wrong_settings ∷ []) ≡ 12 ∷ 13 ∷ 14 ∷ 15 ∷ []
+  pub to-18 : map number_of (all_passed ∷ outside_ranges ∷ frame_too_long ∷ []) ≡ 16 ∷ 17 ∷ 18 ∷ []
+  pub to-23 : map number_of (bad_image ∷ other_edition ∷ too_many_lines ∷ no_solution ∷ []) ≡ 20 ∷ 21 ∷ 22 ∷ 23 ∷ []
+  pub names : map (λ n. number_of (numbered n)) (1 ∷ 2 ∷ 3 ∷ 4 ∷ 5 ∷ 6 ∷ 7 ∷ 8 ∷ 9 ∷ 10 ∷ 12 ∷ 13 ∷ 14 ∷ 15 ∷ 16 ∷ 17 ∷ 18 ∷ 20 ∷ 21 ∷ 22 ∷ 23 ∷ [])
+      ≡ 1 ∷ 2 ∷ 3 ∷ 4 ∷ 5 ∷ 6 ∷ 7 ∷ 8 ∷ 9 ∷ 10 ∷ 12 ∷ 13 ∷ 14 ∷ 15 ∷ 16 ∷ 17 ∷ 18 ∷ 20 ∷ 21 ∷ 22 ∷ 23 ∷ []
 
 -- a length that is read: its value, and how many octets it has
 abbrev pub found : ℕ → ℕ → Answer LengthAnswer
@@ -26,7 +26,7 @@ found value size = done (record { value = value; size = size })
 
 -- a refusal: its number, and its place
 abbrev pub placed : {A : Type 0} → ℕ → ℕ → Answer A
-placed number place = refused (record { number = number; place = place })
+placed number place = refused (record { reason = numbered number; place = place })
 
 pub record ReadCases : Type 0 where
   -- rules 3.1 and 3.7: below 128 a length is one octet, whatever follows it
@@ -57,10 +57,10 @@ pub record ReadCases : Type 0 where
   pub form-first : length_within 2 5 (0xC0 ∷ []) ≡ placed 3 0
   pub end-first : length_within 2 5 [] ≡ placed 1 0
   -- rule 30.10: the cases of the reader's answer
-  pub value-told : length_outcome (lengths.Value 200 2) ≡ found 200 2
-  pub refusal-told : length_outcome (lengths.Refused (record { number = 3; place = 7 })) ≡ placed 3 7
-  pub why : refusal_of (lengths.Refused (record { number = 3; place = 7 })) ≡ record { number = 3; place = 7 }
-  pub why-value : refusal_of (lengths.Value 200 2) ≡ record { number = 1; place = 0 }
+  pub value-told : length_outcome (Ok (record { value = 200; size = 2 })) ≡ found 200 2
+  pub refusal-told : length_outcome (Err (record { reason = numbered 3; place = 7 })) ≡ placed 3 7
+  pub why : refusal_of (Err (record { reason = numbered 3; place = 7 })) ≡ record { reason = numbered 3; place = 7 }
+  pub why-value : refusal_of (Ok (record { value = 200; size = 2 })) ≡ record { reason = numbered 1; place = 0 }
 
 pub record WriteCases : Type 0 where
   -- rules 3.1, 3.2 and 3.8: one octet below 128, two to 16,383, and more is 4
@@ -82,25 +82,25 @@ pub record WriteCases : Type 0 where
   -- rule 2.26: the front of the buffer is written, and the rest is unchanged
   pub rest-stays : over (fitted (length_to_write 5) (0xAA ∷ 0xBB ∷ [])) (0xAA ∷ 0xBB ∷ []) ≡ 0x05 ∷ 0xBB ∷ []
   -- rule 30.10: the cases of the writer's answer, and how many octets it reports
-  pub size-told : written_outcome (written.Octets 2) ≡ size_of (length_to_write 128)
+  pub size-told : written_outcome (Ok 2) ≡ size_of (length_to_write 128)
   pub two-told : size_of (length_to_write 128) ≡ done 2
-  pub refusal-told : written_outcome (written.Refused (record { number = 13; place = 0 })) ≡ placed 13 0
+  pub refusal-told : written_outcome (Err (record { reason = numbered 13; place = 0 })) ≡ placed 13 0
 
 -- rule 2.24: the first row of a table that applies is the answer, and without one the call is done; here 5 is the value of a call that is
 -- done, and 12 and 14 are its refusals
 pub record TableCases : Type 0 where
-  pub none-applies : unless {A = ℕ} (when false 12 ∷ when false 14 ∷ []) 5 ≡ done 5
-  pub first-applies : unless {A = ℕ} (when true 12 ∷ when true 14 ∷ []) 5 ≡ placed 12 0
-  pub second-applies : unless {A = ℕ} (when false 12 ∷ when true 14 ∷ []) 5 ≡ placed 14 0
-  pub first-row : first (when false 12 ∷ when true 14 ∷ when true 15 ∷ []) ≡ some 14
-  pub no_row : first (when false 12 ∷ []) ≡ none
+  pub none-applies : unless {A = ℕ} (when false (numbered 12) ∷ when false (numbered 14) ∷ []) 5 ≡ done 5
+  pub first-applies : unless {A = ℕ} (when true (numbered 12) ∷ when true (numbered 14) ∷ []) 5 ≡ placed 12 0
+  pub second-applies : unless {A = ℕ} (when false (numbered 12) ∷ when true (numbered 14) ∷ []) 5 ≡ placed 14 0
+  pub first-row : first (when false (numbered 12) ∷ when true (numbered 14) ∷ when true (numbered 15) ∷ []) ≡ some (numbered 14)
+  pub no_row : first (when false (numbered 12) ∷ []) ≡ none
   pub done-row : refusal_in {A = ℕ} (done 5) ≡ none
-  pub refused-row : refusal_in {A = ℕ} (placed 12 7) ≡ some 12
+  pub refused-row : refusal_in {A = ℕ} (placed 12 7) ≡ some (numbered 12)
   pub done-place : place_in {A = ℕ} (done 5) ≡ 0
   pub refused-place : place_in {A = ℕ} (placed 12 7) ≡ 7
   -- rule 2.13: the last row of a call that writes two octets, over a buffer of two octets and of one
   pub room : room_row (0x01 ∷ 0x02 ∷ []) (0xAA ∷ 0xAA ∷ []) ≡ none ∷ []
-  pub no_room_case : room_row (0x01 ∷ 0x02 ∷ []) (0xAA ∷ []) ≡ some 13 ∷ []
+  pub no_room_case : room_row (0x01 ∷ 0x02 ∷ []) (0xAA ∷ []) ≡ some (numbered 13) ∷ []
   -- rule 2.25: done or refused; the state after a call
   pub is-done : is_done {A = ℕ} (done 5) ≡ true
   pub is-refused : is_done {A = ℕ} (placed 12 0) ≡ false

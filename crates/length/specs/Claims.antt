@@ -1,11 +1,11 @@
 -- The claims of this crate: the length rule, proved once for packets, spares, messages and counts (rules 28.4 and 28.17); and the
 -- definitions that they use. Definitions only.
-use Rattle.std.specs.Prelude.{ℕ, ◌≤◌, ◌<◌, ◌≡◌, List, ◌++◌, length, get_or, take}
+use Rattle.std.specs.Prelude.{ℕ, ◌≤◌, ◌<◌, ◌≡◌, List, ◌++◌, length, get_or, take, Result}
+use Rattle.length.specs.declared.Refusal.{Refusal}
 use Rattle.length.specs.Answers.{Answer, done, LengthAnswer}
 use Rattle.length.specs.Length.{length_at, length_octets, length_limit}
 use Rattle.length.specs.Promise.{LengthRead, WithinRead, Puts}
 use Rattle.length.specs.declared.Length.{Length}
-use Rattle.length.specs.declared.Written.{Written}
 
 -- every element of a list is an octet
 abbrev pub Octets : List ℕ → Type 0
@@ -23,10 +23,10 @@ ReadWrites = (octets : List ℕ) (a : LengthAnswer) → Octets octets → length
 
 -- two outcomes that a promise allows are equal (rule 28.14)
 pub record OneOutcome : Type 0 where
-  pub read : {octets : List ℕ} {r q : Length} → LengthRead octets r → LengthRead octets q → r ≡ q
-  pub read_within : {least most : ℕ} {octets : List ℕ} {r q : Length} → WithinRead least most octets r → WithinRead least most octets q
+  pub read : {octets : List ℕ} {r q : Result Length Refusal} → LengthRead octets r → LengthRead octets q → r ≡ q
+  pub read_within : {least most : ℕ} {octets : List ℕ} {r q : Result Length Refusal} → WithinRead least most octets r → WithinRead least most octets q
       → r ≡ q
-  pub written : {w : Answer (List ℕ)} {old new other : List ℕ} {r q : Written}
+  pub written : {w : Answer (List ℕ)} {old new other : List ℕ} {r q : Result ℕ Refusal}
       → Puts w old new r → Puts w old other q → (r ≡ q) × (new ≡ other)
 
 pub record Claims : Type 0 where

@@ -5,6 +5,7 @@ use Rattle.std.proofs.Math.Option.{Option}
 use Rattle.length.specs.Refusals.{ends_early, bad_form, outside_sizes}
 use Rattle.length.specs.Answers.{Answer, done, refuse, ◌>>=◌, LengthAnswer}
 use Rattle.length.specs.Tables.{when, unless}
+use Rattle.length.specs.declared.Reason.{Reason}
 
 -- from here on a length has two octets (rule 3.2)
 abbrev pub two_from : ℕ
@@ -49,7 +50,7 @@ unfoldable pub length_octets : ℕ → List ℕ
 length_octets n = cond (ltb n two_from) (n ∷ []) ((n / 256 + 0x80) ∷ n % 256 ∷ [])
 
 -- what the length writer refuses before 13: a length over 16,383 is 4 (rule 3.8)
-abbrev pub length_writer_rows : ℕ → List (Option ℕ)
+abbrev pub length_writer_rows : ℕ → List (Option Reason)
 length_writer_rows n = when (ltb length_limit n) outside_sizes ∷ []
 
 -- what it writes if that row does not apply

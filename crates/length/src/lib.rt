@@ -2,79 +2,77 @@
 // is defined here too, below every crate that refuses.
 #![tactic(auto)]
 
-ghost use Rattle.length.specs.Promise.{Octet, RefusalMade, RefusalPlaced, RefusalTold};
+ghost use Rattle.length.specs.Promise.{Octet, RefusalMade, RefusalPlaced};
 ghost use Rattle.std.specs.Prelude.{◌≡◌, ◌+◌, ◌^◌, ◌<◌};
-ghost use Rattle.length.specs.Refusals.{further as is_further};
+ghost use Rattle.length.specs.Refusals.{number_of, further as is_further};
 ghost use Rattle.length.specs.Length.{two_from, length_limit};
 ghost use Rattle.length.specs.Length.{within as is_within};
 
-// Why a call was refused: the number of the refusal (rules 2.1 to 2.23) and its place. The place is the octet at which the refused item
-// begins, counted from the start of the octets that were read (rule 2.27), and 0 if the refusal is not met while reading (rule 2.30).
-// A refusal is made only here, and passed up whole or by `further`.
+// Why a call is refused, with the numbers that callers and C programs see (rules 2.1 to 2.23). 11 is retired, and its number is not used
+// again (rule 2.11); there is no refusal 19 (rule 2.19).
+#[derive(Drop)]
+#[derive(Clone, Copy)]
+pub enum Reason {
+    EndsEarly = 1,
+    TooLong = 2,
+    BadForm = 3,
+    OutsideSizes = 4,
+    SpareBit = 5,
+    LeftOver = 6,
+    Repeated = 7,
+    TooFar = 8,
+    Late = 9,
+    BaseUnknown = 10,
+    NotAssigned = 12,
+    NoRoom = 13,
+    WrongData = 14,
+    WrongSettings = 15,
+    AllPassed = 16,
+    OutsideRanges = 17,
+    FrameTooLong = 18,
+    BadImage = 20,
+    OtherEdition = 21,
+    TooManyLines = 22,
+    NoSolution = 23,
+}
+
+impl Reason {
+    pub fn number(self) -> u8
+        ensures { result ≡ number_of self }
+    {
+        self as u8
+    }
+}
+
+// A refusal: its reason and its place. The place is the octet at which the refused item begins, counted from the start of the octets that
+// were read (rule 2.27), and 0 if the refusal is not met while reading (rule 2.30). A refusal is made only here, and passed up whole or by
+// `further`.
 #[derive(Drop)]
 #[derive(Clone, Copy)]
 pub struct Refusal {
-    pub number: u8,
+    pub reason: Reason,
     pub place: usize,
 }
 
 impl Refusal {
-    // The numbers (rules 2.1 to 2.23).
-    pub const ENDS_EARLY: u8 = 1;
-
-    pub const TOO_LONG: u8 = 2;
-
-    pub const BAD_FORM: u8 = 3;
-
-    pub const OUTSIDE_SIZES: u8 = 4;
-
-    pub const SPARE_BIT: u8 = 5;
-
-    pub const LEFT_OVER: u8 = 6;
-
-    pub const REPEATED: u8 = 7;
-
-    pub const TOO_FAR: u8 = 8;
-
-    pub const LATE: u8 = 9;
-
-    pub const BASE_UNKNOWN: u8 = 10;
-
-    // 11 is retired, and its number is not used again (rule 2.11).
-    pub const NOT_ASSIGNED: u8 = 12;
-
-    pub const NO_ROOM: u8 = 13;
-
-    pub const WRONG_DATA: u8 = 14;
-
-    pub const WRONG_SETTINGS: u8 = 15;
-
-    pub const ALL_PASSED: u8 = 16;
-
-    pub const OUTSIDE_RANGES: u8 = 17;
-
-    pub const FRAME_TOO_LONG: u8 = 18;
-
-    // There is no refusal 19 (rule 2.19).
-    pub const BAD_IMAGE: u8 = 20;
-
-    pub const OTHER_EDITION: u8 = 21;
-
-    pub const TOO_MANY_LINES: u8 = 22;
-
-    pub const NO_SOLUTION: u8 = 23;
-
-    pub fn new(number: u8) -> Refusal
-        ensures { RefusalMade number result }
+    pub fn new(reason: Reason) -> Refusal
+        ensures { RefusalMade reason result }
     {
-        Refusal { number, place: 0 }
+        Refusal { reason, place: 0 }
     }
 
     // A refusal of an item that begins at the octet `place` (rule 2.27).
-    pub fn at(number: u8, place: usize) -> Refusal
-        ensures { RefusalPlaced number place result }
+    pub fn at(reason: Reason, place: usize) -> Refusal
+        ensures { RefusalPlaced reason place result }
     {
-        Refusal { number, place }
+        Refusal { reason, place }
+    }
+
+    // The number that a caller sees (rules 2.1 to 2.23).
+    pub fn number(self) -> u8
+        ensures { result ≡ number_of self.reason }
+    {
+        self.reason.number()
     }
 
     // The same refusal, passed up by a function that reads from octet `start` on (rule 2.31).
@@ -82,19 +80,19 @@ impl Refusal {
         requires { start + self.place < 2 ^ 64 }
         ensures { result ≡ is_further start self }
     {
-        let place = start + self.place;
         Refusal {
-            number: self.number,
-            place,
+            reason: self.reason,
+            place: start + self.place,
         }
     }
 }
 
-// What reading a length finds at the front: its value and how many octets it has, or why it is refused.
+// A length at the front of some octets: its value and how many octets it has.
 #[derive(Drop)]
-pub enum Length {
-    Value(usize, usize),
-    Refused(Refusal),
+#[derive(Clone, Copy)]
+pub struct Length {
+    pub value: usize,
+    pub size: usize,
 }
 
 impl Length {
@@ -115,23 +113,6 @@ impl Length {
     {
         Length::LIMIT
     }
-
-    // Why a length is refused, to be passed up whole. Callers use it only for a refused length.
-    pub fn refusal(self) -> Refusal
-        ensures { RefusalTold self result }
-    {
-        match self {
-            Length::Value(_, _) => Refusal::new(Refusal::ENDS_EARLY),
-            Length::Refused(why) => why,
-        }
-    }
-}
-
-// What a call returns that writes to the front of the caller's buffer: how many octets it wrote, or why it is refused.
-#[derive(Drop)]
-pub enum Written {
-    Octets(usize),
-    Refused(Refusal),
 }
 
 // An octet as a size.

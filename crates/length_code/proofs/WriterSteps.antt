@@ -1,4 +1,5 @@
 -- One law for each answer of `write`, in the words of the code: the tests that led there give the promise. Assumes nothing.
+use Rattle.std.proofs.Common.{Ok, Err}
 use Prim.Native.Nat.{ℕ, ◌+◌, ◌/◌, ◌%◌, ◌≤◌, ◌<◌}
 use mathlib.Core.Path.{◌≡◌, refl, ap, ◌∙◌}
 use mathlib.Core.List.{List, [], ◌∷◌}
@@ -11,7 +12,6 @@ use Rattle.length.specs.Tables.{unless}
 use Rattle.length.specs.Length.{length_octets, length_to_write}
 use Rattle.length.specs.Promise.{Puts, RefusalMade}
 use Rattle.length.specs.declared.Refusal.{Refusal}
-use Rattle.length.specs.declared.Written.TheVariants as written
 
 first-set : (l : List ℕ) (a : ℕ) → 1 ≤ length l → set l 0 a ≡ a ∷ drop 1 l
 first-set [] a some = absurd (not-suc-le-zero some)
@@ -22,12 +22,12 @@ two-set [] a b some = absurd (not-suc-le-zero some)
 two-set (x ∷ l) a b some = ap (λ (t : List ℕ). a ∷ t) (first-set l b (le_of_suc-le-suc some))
 
 module _ {n : ℕ} {old : List ℕ} where
-  pub write-over : {r : Refusal} → RefusalMade outside_sizes r → 16383 < n → Puts (length_to_write n) old old (written.Refused r)
+  pub write-over : {r : Refusal} → RefusalMade outside_sizes r → 16383 < n → Puts (length_to_write n) old old (Err r)
   unfolding length_to_write unless
   write-over made large = record { answer = rw (made.answer, lt-ltb 16383 n large); lent = rw (lt-ltb 16383 n large) }
 
   pub write-one-full : {r : Refusal} → RefusalMade no_room r → n ≤ 16383 → n < 128 → length old < 1
-      → Puts (length_to_write n) old old (written.Refused r)
+      → Puts (length_to_write n) old old (Err r)
   unfolding length_to_write unless length_octets
   write-one-full made fits small full =
       record {
@@ -36,7 +36,7 @@ module _ {n : ℕ} {old : List ℕ} where
       }
 
   pub write-two-full : {r : Refusal} → RefusalMade no_room r → n ≤ 16383 → 128 ≤ n → length old < 2
-      → Puts (length_to_write n) old old (written.Refused r)
+      → Puts (length_to_write n) old old (Err r)
   unfolding length_to_write unless length_octets
   write-two-full made fits large full =
       record {
@@ -44,7 +44,7 @@ module _ {n : ℕ} {old : List ℕ} where
         lent = rw (le-ltb 16383 n fits, le-ltb n 128 large, lt-leb 2 (length old) full);
       }
 
-  pub write-one : n ≤ 16383 → n < 128 → 1 ≤ length old → Puts (length_to_write n) old (set old 0 (n % 256)) (written.Octets 1)
+  pub write-one : n ≤ 16383 → n < 128 → 1 ≤ length old → Puts (length_to_write n) old (set old 0 (n % 256)) (Ok 1)
   unfolding length_to_write unless length_octets
   write-one fits small room =
       record {
@@ -55,7 +55,7 @@ module _ {n : ℕ} {old : List ℕ} where
       }
 
   pub write_two : n ≤ 16383 → 128 ≤ n → 2 ≤ length old
-      → Puts (length_to_write n) old (set (set old 0 ((n / 256 + 128) % 256)) 1 (n % 256)) (written.Octets 2)
+      → Puts (length_to_write n) old (set (set old 0 ((n / 256 + 128) % 256)) 1 (n % 256)) (Ok 2)
   unfolding length_to_write unless length_octets
   write_two fits large room =
       record {

@@ -2,7 +2,7 @@
 use Rattle.std.specs.Prelude.{ℕ, ◌≡◌, true, false, List, [], ◌∷◌, map, length, replicate}
 use Rattle.std.proofs.Math.Option.{none, some}
 use Rattle.std.proofs.Math.ListN.{get_elem?}
-use Rattle.length.specs.Refusals.{refusal_at}
+use Rattle.length.specs.Refusals.{refusal_at, numbered}
 use Rattle.length.specs.Answers.{done, refuse}
 use Rattle.session.specs.Cells.{unknown, received, spare, repaired, blank}
 use Rattle.session.specs.Cases.{at_limit}
@@ -24,14 +24,14 @@ pub record HexCases : Type 0 where
   pub written : hex_of (0x01 ∷ 0x23 ∷ 0x45 ∷ 0x67 ∷ 0x89 ∷ 0xAB ∷ 0xCD ∷ 0xEF ∷ []) ≡ characters "0123456789ABCDEF"
   -- rule 18.10: the characters before and behind the digits of each kind are no digits; nor are a carriage return and a space
   pub no-digits : map line_octets (characters "0/" ∷ characters "0:" ∷ characters "0@" ∷ characters "0G" ∷ characters "0`" ∷ characters "0g" ∷ [])
-      ≡ replicate 6 (refuse 15)
-  pub return : line_octets (characters "00\r") ≡ refuse 15
-  pub blanks : line_octets (characters "0 06") ≡ refuse 15
+      ≡ replicate 6 (refuse (numbered 15))
+  pub return : line_octets (characters "00\r") ≡ refuse (numbered 15)
+  pub blanks : line_octets (characters "0 06") ≡ refuse (numbered 15)
   -- rule 18.10: a last digit without its pair is not dropped
-  pub one-digit : line_octets (characters "0") ≡ refuse 15
-  pub odd : line_octets (characters "060") ≡ refuse 15
+  pub one-digit : line_octets (characters "0") ≡ refuse (numbered 15)
+  pub odd : line_octets (characters "060") ≡ refuse (numbered 15)
   -- rules 1.11 and 18.11: a line of 4,801 characters, each `G`, which is no digit, is 2, before 15; one of 4,800 does not meet the row of 2
-  pub too-long-first : line_octets (replicate 4801 0x47) ≡ refuse 2
+  pub too-long-first : line_octets (replicate 4801 0x47) ≡ refuse (numbered 2)
   pub longest : get_elem? (line_rows (replicate 4800 0x47)) 0 ≡ some none
 
 -- ---- result lines
@@ -48,9 +48,9 @@ pub record ResultCases : Type 0 where
       ∷ []
   pub lost : result_line 0x03 0x1234 [] ≡ characters "031234\n"
   -- rule 18.6: `FF`, the number of the refusal, the place in four digits, high first
-  pub refusals : refusal_line (refusal_at 0x05DB 6) ≡ characters "FF0605DB\n"
-  pub places : refusal_line (refusal_at 0x0900 23) ≡ characters "FF170900\n"
-  pub last-place : refusal_line (refusal_at 0xFFFF 6) ≡ characters "FF06FFFF\n"
+  pub refusals : refusal_line (refusal_at 0x05DB (numbered 6)) ≡ characters "FF0605DB\n"
+  pub places : refusal_line (refusal_at 0x0900 (numbered 23)) ≡ characters "FF170900\n"
+  pub last-place : refusal_line (refusal_at 0xFFFF (numbered 6)) ≡ characters "FF06FFFF\n"
 
 -- ---- the program
 -- rule 26.17: the whole case

@@ -1,10 +1,10 @@
 -- The claims of this crate. Statements alone.
-use Rattle.std.specs.Prelude.{ℕ, ◌+◌, ◌*◌, ◌≤◌, ◌<◌, ◌≡◌, false, List, [], ◌∷◌, ◌++◌, ◌⊎◌, length, get_or, take, drop}
+use Rattle.std.specs.Prelude.{ℕ, ◌+◌, ◌*◌, ◌≤◌, ◌<◌, ◌≡◌, false, List, [], ◌∷◌, ◌++◌, ◌⊎◌, length, get_or, take, drop, Result as Answered}
+use Rattle.length.specs.declared.Refusal.{Refusal}
 use Rattle.length.specs.Refusals.{base_unknown, all_passed}
 use Rattle.length.specs.Answers.{done, refuse, mapped}
 use Rattle.length.specs.Promise.{Puts}
 use Rattle.length.specs.Claims.{Octets}
-use Rattle.length.specs.declared.Written.{Written}
 use Rattle.datagram.specs.Sizes.{packet_limit, datagram_limit}
 use Rattle.session.specs.Release.{release}
 use Rattle.session_held.specs.Table.{Lent, lent, lent_by, view_in}
@@ -79,7 +79,7 @@ pub record Same {A : Type 0} (r q : A) (session other : Lent) (new written : Lis
 
 -- rule 28.14: two outcomes that a promise allows are equal
 pub record OneOutcome : Type 0 where
-  pub hex_to_octets : (line : List ℕ) {old new other : List ℕ} {r q : Written} → Puts (line_octets line) old new r
+  pub hex_to_octets : (line : List ℕ) {old new other : List ℕ} {r q : Answered ℕ Refusal} → Puts (line_octets line) old new r
       → Puts (line_octets line) old other q
       → (r ≡ q) × (new ≡ other)
   pub step : {m : Made} {old : List ℕ} {at : ℕ} {r q : Stepped} {t u o p g k new written : List ℕ}

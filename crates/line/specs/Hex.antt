@@ -6,6 +6,7 @@ use Rattle.length.specs.Refusals.{too_long, wrong_settings}
 use Rattle.length.specs.Answers.{Answer}
 use Rattle.length.specs.Tables.{when, unless}
 use Rattle.length.specs.Length.{within}
+use Rattle.length.specs.declared.Reason.{Reason}
 use Rattle.octets.specs.Place.{tab, all_below}
 use Rattle.datagram.specs.Sizes.{datagram_limit}
 
@@ -43,7 +44,7 @@ abbrev pub paired : List ℕ → Bool
 paired line = eqb (length line % 2) 0 && all_digits line
 
 -- rules 2.2, 2.15, 18.10 and 18.11: 2 for a line over the limit, before 15 for one that is not made of paired digits
-abbrev pub line_rows : List ℕ → List (Option ℕ)
+abbrev pub line_rows : List ℕ → List (Option Reason)
 line_rows line = when (ltb line_limit (length line)) too_long ∷ when (not (paired line)) wrong_settings ∷ []
 
 -- the octets of a line

@@ -4,6 +4,7 @@
 use Rattle.std.specs.Prelude.{ℕ, zero, suc, ◌/◌, ◌%◌, Bool, true, false, cond, List, [], ◌∷◌, ◌++◌, eqb}
 use Rattle.length.specs.Answers.{Answer, done, refused, ◌>>=◌}
 use Rattle.length.specs.declared.Refusal.{Refusal}
+use Rattle.length.specs.Refusals.{number_of}
 use Rattle.datagram.specs.Sizes.{packet_limit}
 use Rattle.session.specs.Cells.{State, unknown, received, spare, repaired, blank, kept_ahead}
 use Rattle.session.specs.View.{View, fresh_view}
@@ -38,7 +39,7 @@ result_line kind number octets = line_of (kind ∷ number / 256 ∷ number % 256
 
 -- rule 18.6: `FF`, the number, the place in four digits, which hold every place (`placed` in `DatagramRefusals` of `demands`)
 unfoldable pub refusal_line : Refusal → List ℕ
-refusal_line r = line_of (0xFF ∷ r.number ∷ r.place / 256 % 256 ∷ r.place % 256 ∷ [])
+refusal_line r = line_of (0xFF ∷ number_of r.reason ∷ r.place / 256 % 256 ∷ r.place % 256 ∷ [])
 
 -- ---- steps of the program
 

@@ -1,19 +1,18 @@
 -- The search for a line feed, and the line that has begun, on plain values. Assumes nothing.
 use Prim.Native.Nat.{ℕ, zero, suc, ◌+◌, ◌-◌, ◌≤◌, ◌<◌, min}
-use mathlib.Core.Path.{◌≡◌, refl, sym, ap, ◌∙◌}
+use mathlib.Core.Path.{◌≡◌, refl, sym, ap, ap₂, ◌∙◌}
 use mathlib.Core.Bool.{Bool, true, false, not, ◌&&◌}
-use mathlib.Core.List.{List, [], ◌∷◌, ◌++◌}
+use mathlib.Core.List.{List, [], ◌∷◌, ◌++◌, append_assoc}
 use mathlib.Core.Logic.{⊎_elim}
-use lib.ListN.{length, get_or, set, take, drop, length-set}
-use lib.Seq.{paste, paste-zero, paste-suc, take-paste, drop-paste, take-append-add, length-take-le, take_all, get_or-drop, get_or-set_same}
-use lib.Seq.{get_or-set_other}
+use lib.ListN.{length, get_or, take, drop}
+use lib.Seq.{paste, take-paste, drop-paste, length-paste, take-append-add, length-take-le, take_all, get_or-drop, drop-drop}
+use borrow.Rule.Slice.PartMut.{put_mid}
 use lib.Dec.{eqb}
-use native.Mathlib.Numerals.{add-one}
 use native.Mathlib.Omega.{arith}
 use borrow.Author.Count.{below_more}
 use borrow.Author.Tests.{eqb-false, eq-eqb, ne_eqb, not-true}
 use Rattle.octets.specs.Place.{all_below}
-use Rattle.octets.proofs.Laws.{all_below-more, all_below-at, below_or_not, same_or_not}
+use Rattle.octets.proofs.Laws.{all_below-more, all_below-at, below_or_not}
 use Rattle.line.specs.Lines.{line_feed}
 use Rattle.line.specs.Feed.{kept_limit}
 use Rattle.line.specs.FeedPromise.{looked_at, plain_at, Begun, Found, line_end, LineIn, LineKept}
@@ -98,26 +97,6 @@ found_nowhere {s} {at} f past =
     omega (arith, f.begun.inside, ends_with s (λ k below. f.begun.plain k (omega arith)))
 
 -- ---- the line that has begun
-pub record Keeping (old more : List ℕ) (begun count : ℕ) (new : List ℕ) (j : ℕ) : Type 0 where
-  pub laid : new ≡ paste old begun more j
-  pub few : j ≤ count
-  pub long : length new ≡ length old
-
-pub keeping_start : (old more : List ℕ) (begun count : ℕ) → Keeping old more begun count old 0
-keeping_start old more begun count = record { laid = paste-zero old begun more; few = omega arith; long = refl }
-
-pub keeping-turn : {old more : List ℕ} {begun count : ℕ} {new : List ℕ} {j : ℕ} → Keeping old more begun count new j → j < count
-    → count ≡ min (kept_limit - begun) (length more) → LineIn old begun
-    → Keeping old more begun count (set new (begun + j) (get_or more j 0)) (j + 1)
-keeping-turn {old} {more} {begun} {count} {new} {j} k less is held =
-    let size = held.size in
-    let short = held.short in
-    record {
-      laid = rw (k.laid, add-one) (paste-suc old begun more j 0 (omega arith) (omega arith));
-      few = omega arith;
-      long = length-set new (begun + j) (get_or more j 0) ∙ k.long;
-    }
-
 take-least : (n : ℕ) (l : List ℕ) → take (min n (length l)) l ≡ take n l
 take-least n l =
     ⊎_elim
@@ -139,15 +118,17 @@ get_d-rest a b n k same past =
     ∙ get_or-drop n b (k - n) 0
     ∙ ap (λ (j : ℕ). get_or b j 0) place
 
-pub keeping-done : {old more : List ℕ} {begun count : ℕ} {new : List ℕ} {j : ℕ} → Keeping old more begun count new j → count ≤ j
-    → count ≡ min (kept_limit - begun) (length more) → LineIn old begun → LineKept old begun more new (begun + count)
-keeping-done {old} {more} {begun} {count} {new} {j} k end is held =
+pub keeping-done : {old more part : List ℕ} {begun count n : ℕ} → part ≡ take count more → n ≡ count
+    → count ≡ min (kept_limit - begun) (length more) → LineIn old begun
+    → LineKept old begun more (put_mid begun n old part) (begun + count)
+keeping-done {old} {more} {part} {begun} {count} {n} copied size-is is held =
     let size = held.size in
     let short = held.short in
-    let all : j ≡ count = omega (arith, k.few) in
     let front : length (take begun old) ≡ begun = length-take-le begun old (omega arith) in
     let place : length (take begun old) + (kept_limit - begun) ≡ kept_limit = omega arith in
-    let laid : new ≡ paste old begun more count = k.laid ∙ ap (λ (n : ℕ). paste old begun more n) all in
+    let laid : put_mid begun n old part ≡ paste old begun more count =
+    ap₂ (λ (p r : List ℕ). take begun old ++ (p ++ r)) copied (drop-drop n begun old ∙ ap (λ (k : ℕ). drop (begun + k) old) size-is)
+    ∙ sym (append_assoc (take begun old) (take count more) (drop (begun + count) old)) in
     record {
       line =
           ap (λ (l : List ℕ). take (begun + count) l) laid
@@ -158,29 +139,11 @@ keeping-done {old} {more} {begun} {count} {new} {j} k end is held =
           ∙ ap (λ (n : ℕ). take n (take begun old ++ more)) place;
       holds =
           record {
-            size = size ∙ sym k.long;
+            size = size ∙ sym (ap length laid ∙ length-paste old begun more count (omega arith) (omega arith));
             short = omega arith;
             zeros = λ i past.
-                get_d-rest new old (begun + count) i
+                get_d-rest (put_mid begun n old part) old (begun + count) i
                 (ap (λ (l : List ℕ). drop (begun + count) l) laid ∙ drop-paste old begun more count (omega arith) (omega arith)) past
                 ∙ held.zeros i (omega arith);
           };
     }
-
--- ---- and no line begun
-pub clear-turn : {l : List ℕ} {left : ℕ} → LineIn l left → 0 < left → LineIn (set l (left - 1) 0) (left - 1)
-clear-turn {l} {left} held some =
-    record {
-      size = held.size ∙ sym (length-set l (left - 1) 0);
-      short = omega (arith, held.short);
-      zeros = λ k past.
-          ⊎_elim
-          (λ same.
-          ap (λ (j : ℕ). get_or (set l (left - 1) 0) j 0) same
-          ∙ get_or-set_same l (left - 1) 0 0 (omega (arith, held.size, held.short)))
-          (λ other. get_or-set_other l (left - 1) k 0 0 other ∙ held.zeros k (omega arith))
-          (same_or_not k (left - 1));
-    }
-
-pub clear-done : {l : List ℕ} {left : ℕ} → LineIn l left → left ≤ 0 → LineIn l 0
-clear-done {l} {left} held none = let e : left ≡ 0 = omega arith in rw e at held

@@ -1,5 +1,6 @@
 -- A line that is offered, on plain values: its octets, the offer's answer, and the line for a refusal. Assumes nothing.
-use Prim.Native.Nat.{ℕ, ◌+◌, ◌≤◌}
+use Rattle.std.proofs.Common.{Result, Ok, Err}
+use Prim.Native.Nat.{ℕ, ◌≤◌}
 use mathlib.Core.Path.{◌≡◌, refl, sym, ap, ap₂, ◌∙◌}
 use mathlib.Core.Bool.{not}
 use mathlib.Core.List.{List, [], ◌∷◌, ◌++◌}
@@ -13,8 +14,6 @@ use Rattle.length.specs.Tables.{when}
 use Rattle.length.specs.Answers.{Answer, done, refused, fitted, size_of, over, written_outcome, afterwards}
 use Rattle.length.specs.Promise.{Puts}
 use Rattle.length.specs.declared.Refusal.{Refusal}
-use Rattle.length.specs.declared.Written.{Written}
-use Rattle.length.specs.declared.Written.TheVariants as written
 use Rattle.length.proofs.Laws.{unless-past, unless-done}
 use Rattle.datagram.specs.Sizes.{datagram_limit}
 use Rattle.session.specs.View.{View}
@@ -23,8 +22,6 @@ use Rattle.session_held.specs.Table.{Lent, view_in}
 use Rattle.session_held.specs.Laid.{InRanges}
 use Rattle.session_offer.specs.Outcome.{offered_outcome, accepted_of}
 use Rattle.session_offer.specs.Promise.{Offers}
-use Rattle.session_offer.specs.declared.Offered.{Offered}
-use Rattle.session_offer.specs.declared.Offered.TheVariants as offered
 use Rattle.line.specs.Hex.{line_limit, paired, line_rows, octets_in, line_octets}
 use Rattle.line.specs.Lines.{refusal_line, offer_made, line_offered, offer_line}
 use Rattle.line.specs.Promise.{Appends, Does}
@@ -45,8 +42,8 @@ after-offer : (x : Answer View) (view : View) → afterwards x view ≡ (offer_m
 after-offer (done after) view = refl
 after-offer (refused r) view = refl
 
-module _ {octets : List ℕ} {before session : Lent} {answer : Offered} (made : Offers octets before session answer) where
-  pub offer-taken : {old : List ℕ} {at : ℕ} → answer ≡ offered.Accepted → at ≤ length old
+module _ {octets : List ℕ} {before session : Lent} {answer : Result (Unit {0}) Refusal} (made : Offers octets before session answer) where
+  pub offer-taken : {old : List ℕ} {at : ℕ} → answer ≡ Ok tt → at ≤ length old
       → Does (offer_made (offer octets (view_in before)) (view_in before)) old at session at old
   offer-taken is inside =
       let x = offer octets (view_in before) in
@@ -56,7 +53,7 @@ module _ {octets : List ℕ} {before session : Lent} {answer : Offered} (made : 
         within = made.within;
       }
 
-  pub offer-not-taken : {why : Refusal} {old : List ℕ} {at : ℕ} {new : List ℕ} {end : ℕ} → answer ≡ offered.Refused why
+  pub offer-not-taken : {why : Refusal} {old : List ℕ} {at : ℕ} {new : List ℕ} {end : ℕ} → answer ≡ Err why
       → Appends (refusal_line why) old at new end → Does (offer_made (offer octets (view_in before)) (view_in before)) old at session end new
   offer-not-taken is a =
       let x = offer octets (view_in before) in
@@ -99,24 +96,24 @@ fits : (line old : List ℕ) → datagram_limit ≤ length old → (l : List ℕ
 fits line old work l e = omega (arith, line-fits line l e)
 
 module _ (line : List ℕ) {old new : List ℕ} (work : datagram_limit ≤ length old) where
-  module _ {r : Written} (p : Puts (line_octets line) old new r) where
-    octets : {size : ℕ} → r ≡ written.Octets size → (line_octets line ≡ done (take size new)) × (size ≤ length new)
+  module _ {r : Result ℕ Refusal} (p : Puts (line_octets line) old new r) where
+    octets : {size : ℕ} → r ≡ Ok size → (line_octets line ≡ done (take size new)) × (size ≤ length new)
     octets {size} is =
         read-octets (line_octets line) size old new (fits line old work) (sym (ap written_outcome is) ∙ p.answer) p.lent
 
-    pub line-inside : {size : ℕ} → r ≡ written.Octets size → size ≤ length new
+    pub line-inside : {size : ℕ} → r ≡ Ok size → size ≤ length new
     line-inside is = (octets is).1
 
-    pub line-length : {size : ℕ} → r ≡ written.Octets size → size ≡ length (take size new)
+    pub line-length : {size : ℕ} → r ≡ Ok size → size ≡ length (take size new)
     line-length {size} is = sym (length-take-le size new (line-inside is))
 
     pub line-offered : (view : View) {size : ℕ} {out : List ℕ} {at : ℕ} {session : Lent} {end : ℕ} {after : List ℕ}
-        → r ≡ written.Octets size
+        → r ≡ Ok size
         → Does (offer_made (offer (take size new) view) view) out at session end after → Does (offer_line line view) out at session end after
     unfolding offer_line line_offered
     line-offered view is d = rw (octets is).0 d
 
-    pub line_refused : {why : Refusal} {out : List ℕ} {at : ℕ} {session : Lent} {end : ℕ} {after : List ℕ} → r ≡ written.Refused why
+    pub line_refused : {why : Refusal} {out : List ℕ} {at : ℕ} {session : Lent} {end : ℕ} {after : List ℕ} → r ≡ Err why
         → InRanges session → Appends (refusal_line why) out at after end → Does (offer_line line (view_in session)) out at session end after
     unfolding offer_line line_offered
     line_refused {why} is w a =

@@ -7,8 +7,7 @@ use lib.ListN.{length}
 use lib.Dec.{leb, ltb}
 use native.Mathlib.Nat.{not-suc-le-zero}
 use native.Mathlib.Omega.{arith}
-use borrow.Author.Tests.{not-true, not-false, lt-ltb, le-ltb, ltb-true, ltb-false}
-use Rattle.octets.proofs.Laws.{and_left, and_right}
+use borrow.Author.Tests.{not-false, lt-ltb, le-ltb, ltb-true, ltb-false}
 use Rattle.length.specs.Answers.{Answer, done, refused}
 use Rattle.length.specs.declared.Refusal.{Refusal}
 use Rattle.datagram.specs.Sizes.{packet_limit}
@@ -138,10 +137,11 @@ pub record Left (goal : Made) (old : List ℕ) (at : ℕ) (session : Lent) (out 
   pub long : length out ≡ length old
   pub few : left ≤ kept_ahead + 1
 
-pub left-start : {session : Lent} {out : List ℕ} {at n : ℕ} → n ≤ kept_ahead + 1 → Able (n * result_limit) session out at
-    → Left (turns n (view_in session)) out at session out at n
-left-start few able =
-    record {
+pub left-start : {session : Lent} {out : List ℕ} {at n left : ℕ} → left ≡ n → n ≤ kept_ahead + 1 → Able (n * result_limit) session out at
+    → Left (turns n (view_in session)) out at session out at left
+left-start all few able =
+    rw all
+    (record {
       text = [];
       laid = appends-none (omega (arith, able.room));
       whole = refl;
@@ -149,7 +149,7 @@ left-start few able =
       room = able.room;
       long = refl;
       few = few;
-    }
+    })
 
 -- before a turn
 pub left-ready : {goal : Made} {old : List ℕ} {at : ℕ} {session : Lent} {out : List ℕ} {end left : ℕ}
@@ -175,32 +175,32 @@ module _ {goal : Made} {old : List ℕ} {at : ℕ} {session : Lent} {out : List 
 
     -- the base is unknown, and the turn has no leave: all was released
     pub left-unknown : 0 < left → {slot : ℕ} {was : Bool} → slot ≡ session.base % slots_kept
-        → was ≡ not (is_unknown (state_numbered (state_in session.table slot))) → (not was && not (ltb kept_ahead left)) ≡ true
+        → was ≡ not (is_unknown (state_numbered (state_in session.table slot))) → was ≡ false → left ≤ kept_ahead
         → Does goal old at session end out
     unfolding view_in
-    left-unknown some {slot} {was} e-slot e-was is =
+    left-unknown some {slot} e-slot e-was not-known last =
         let v = view_in session in
         let place : slot ≡ slot_at session.base kept_before = omega arith in
         let known : not (is_unknown (state_numbered (state_in session.table slot))) ≡ false =
-        sym e-was ∙ not-true was (and_left (not was) (not (ltb kept_ahead left)) is) in
+        sym e-was ∙ not-known in
         let unknown : is_unknown (state_numbered (state_in session.table slot)) ≡ true =
         not-false (is_unknown (state_numbered (state_in session.table slot))) known in
         let at_base_lem : is_unknown (state_numbered (state_in session.table (slot_at session.base kept_before)))
         ≡ true = rw place at unknown in
         let stops = unknown-stops v (unknown-at session.base session.table session.octets kept_before (omega arith) ∙ at_base_lem) in
-        let low = ltb-false kept_ahead left (not-true (ltb kept_ahead left) (and_right (not was) (not (ltb kept_ahead left)) is)) in
-        left-silent (turns-plain left v low ∙ releases-none left v some stops)
+        left-silent (turns-plain left v last ∙ releases-none left v some stops)
 
     module _ (some : 0 < left) {leave : Bool} (first : leave ≡ ltb kept_ahead left) {after : Lent} {later : ℕ} {more : Bool} {new : List ℕ}
         (r : ReleasesOne leave (view_in session) out end after later more new) where
       -- something was released
-      pub left-turn : more ≡ true → Left goal old at after new later (left - 1)
-      left-turn goes =
+      pub left-turn : more ≡ true → {next : ℕ} → next ≡ left - 1 → Left goal old at after new later next
+      left-turn goes fewer =
           let v = view_in session in
           let a = release_made leave (release leave packet_limit v) v in
           let b = turns (left - 1) a.after in
           let step : turns left v ≡ (a then turns (left - 1)) = turn-goes left leave v first some l.few (sym goes ∙ r.goes) in
-          record {
+          rw fewer
+          (record {
             text = l.text ++ a.text;
             laid = appends-then l.laid r.does.lent;
             whole =
@@ -212,7 +212,7 @@ module _ {goal : Made} {old : List ℕ} {at : ℕ} {session : Lent} {out : List 
             room = omega (arith, l.room, r.few);
             long = appends-long r.does.lent ∙ l.long;
             few = omega (arith, l.few);
-          }
+          })
 
       -- nothing was released: all was
       pub left-stop : more ≡ false → Does goal old at after later new

@@ -1,10 +1,12 @@
 -- Result lines, laid part after part. Assumes nothing.
-use Prim.Native.Nat.{ℕ, ◌+◌, ◌-◌, ◌*◌, ◌/◌, ◌%◌, ◌≤◌}
+use Prim.Native.Nat.{ℕ, ◌+◌, ◌-◌, ◌*◌, ◌/◌, ◌%◌, ◌≤◌, ◌<◌}
 use mathlib.Core.Path.{◌≡◌, refl, ap, ◌∙◌}
 use mathlib.Core.List.{List, [], ◌∷◌}
-use lib.ListN.{length, set, take, drop, length-append}
+use Rattle.std.specs.Int.{w16, to_be_bytes}
+use lib.ListN.{length, get_or, set, take, drop, length-append}
 use native.Mathlib.Omega.{arith}
 use Rattle.length.specs.declared.Refusal.{Refusal}
+use Rattle.length.specs.Refusals.{number_of}
 use Rattle.datagram.specs.Sizes.{packet_limit}
 use Rattle.session_slots.specs.Store.{part}
 use Rattle.session_held.specs.Slots.{slots_kept}
@@ -28,11 +30,19 @@ pub room-left-two : (front octets : List ℕ) {old one new : List ℕ} {at middl
 room-left-two front octets k a b room =
     omega (arith, a.after, appends-long a, length-hex_of front, b.after, appends-long b, length-hex_of octets)
 
-pub result-put : (kind number : ℕ) (octets : List ℕ) {old one two new : List ℕ} {at middle end r : ℕ}
-    → Appends (hex_of (kind ∷ number / 256 ∷ number % 256 ∷ [])) old at one middle → Appends (hex_of octets) one middle two end
+-- the two octets of a number
+pub high-octet : {number : ℕ} {octets : List ℕ} → number < 65536 → octets ≡ to_be_bytes w16 number → get_or octets 0 0 ≡ number / 256
+high-octet small is = ap (λ (l : List ℕ). get_or l 0 0) is ∙ omega arith
+
+pub low-octet : (number : ℕ) {octets : List ℕ} → octets ≡ to_be_bytes w16 number → get_or octets 1 0 ≡ number % 256
+low-octet number is = ap (λ (l : List ℕ). get_or l 1 0) is
+
+pub result-put : (kind number : ℕ) (octets : List ℕ) {high low : ℕ} {old one two new : List ℕ} {at middle end r : ℕ}
+    → high ≡ number / 256 → low ≡ number % 256
+    → Appends (hex_of (kind ∷ high ∷ low ∷ [])) old at one middle → Appends (hex_of octets) one middle two end
     → Appends (10 ∷ []) two end new r → Appends (result_line kind number octets) old at new r
 unfolding result_line hex_of
-result-put kind number octets front packet feed = appends-then (appends-then front packet) feed
+result-put kind number octets h l front packet feed = appends-then (appends-then (rw (h, l) at front) packet) feed
 
 -- the octets of a slot are the part of it that is read
 pub kept_put : (kind number size slot : ℕ) (o : List ℕ) {old new : List ℕ} {at end : ℕ} → slot ≡ number % slots_kept
@@ -43,11 +53,11 @@ kept_put kind number size slot o e a =
     let all : slot * packet_limit + size - slot * packet_limit ≡ size = omega arith in
     rw (all, e) at a
 
-pub refusal-put : (why : Refusal) {old one new : List ℕ} {at end r : ℕ}
-    → Appends (hex_of (255 ∷ why.number ∷ why.place / 256 % 256 ∷ why.place % 256 ∷ [])) old at one end → Appends (10 ∷ []) one end new r
+pub refusal-put : (why : Refusal) {old one new : List ℕ} {number at end r : ℕ} → number ≡ number_of why.reason
+    → Appends (hex_of (255 ∷ number ∷ why.place / 256 % 256 ∷ why.place % 256 ∷ [])) old at one end → Appends (10 ∷ []) one end new r
     → Appends (refusal_line why) old at new r
 unfolding refusal_line
-refusal-put why front feed = appends-then front feed
+refusal-put why e front feed = appends-then (rw e at front) feed
 
 -- ---- their lengths
 pub length-result : (kind number : ℕ) (octets : List ℕ) → length (result_line kind number octets) ≡ 7 + 2 * length octets

@@ -1,4 +1,5 @@
 -- The parts of a step on plain values: a release, and one part after the other. Assumes nothing.
+use Rattle.std.proofs.Common.{Result, Ok, Err}
 use Prim.Native.Nat.{ℕ, ◌+◌, ◌*◌, ◌%◌, ◌≤◌}
 use mathlib.Core.Path.{◌≡◌, refl, sym, ap, ◌∙◌}
 use mathlib.Core.Bool.{Bool, true, false, cond}
@@ -17,7 +18,6 @@ use Rattle.session_held.specs.Table.{Lent, view_in, state_of}
 use Rattle.session_held.specs.declared.ReleaseKind.{ReleaseKind}
 use Rattle.session_release.specs.Promise as leaving
 use Rattle.session_release.specs.declared.Released.{Released}
-use Rattle.session_release.specs.declared.Released.TheVariants as released
 use Rattle.session_release.proofs.Laws.{gone, not-gone, gone-there, gone-short, gone-octets}
 use Rattle.line.specs.Lines as lines
 use Rattle.line.specs.Lines.{Made, kind_octet, result_line, refusal_line, ◌then◌}
@@ -47,7 +47,7 @@ same_line : {kind other number same : ℕ} {a b : List ℕ} → kind ≡ other �
     → result_line kind number a ≡ result_line other same b
 same_line k n e = rw (k, n, e)
 
-module _ {leave : Bool} {before session : Lent} {answer : Released} (made : leaving.Leaves leave packet_limit before session answer) where
+module _ {leave : Bool} {before session : Lent} {answer : Result Released Refusal} (made : leaving.Leaves leave packet_limit before session answer) where
   after : view_in session ≡ (lines.release_made leave (release leave packet_limit (view_in before)) (view_in before)).after
   after = made.state ∙ after-release leave (release leave packet_limit (view_in before)) (view_in before)
 
@@ -55,7 +55,7 @@ module _ {leave : Bool} {before session : Lent} {answer : Released} (made : leav
   pub packet-there : (number : ℕ) → HasSlot (number % slots_kept) session.octets
   packet-there number = gone-there made number refl
 
-  module _ {kind : ReleaseKind} {number note size : ℕ} (is : answer ≡ released.Number kind number note size) where
+  module _ {kind : ReleaseKind} {number note size : ℕ} (is : answer ≡ Ok (record { kind = kind; number = number; note = note; size = size })) where
     pub packet-short : size ≤ packet_limit
     packet-short = gone-short made is
 
@@ -87,12 +87,12 @@ module _ {leave : Bool} {before session : Lent} {answer : Released} (made : leav
         }
 
   -- a refusal is a line with leave, and none without
-  none : {why : Refusal} → answer ≡ released.Refused why
+  none : {why : Refusal} → answer ≡ Err why
       → ((lines.release_made leave (release leave packet_limit (view_in before)) (view_in before)).text ≡ cond leave (refusal_line why) [])
       × (false ≡ goes_on (release leave packet_limit (view_in before)))
   none {why} is = (rw (not-gone made is) refl, rw (not-gone made is) refl)
 
-  pub released-told : {why : Refusal} {buffer : List ℕ} {at : ℕ} {after : List ℕ} {end : ℕ} → answer ≡ released.Refused why
+  pub released-told : {why : Refusal} {buffer : List ℕ} {at : ℕ} {after : List ℕ} {end : ℕ} → answer ≡ Err why
       → leave ≡ true → Appends (refusal_line why) buffer at after end → ReleasesOne leave (view_in before) buffer at session end false after
   released-told {why} is told a =
       let text = (none is).0 ∙ ap (λ (b : Bool). cond b (refusal_line why) []) told in
@@ -102,7 +102,7 @@ module _ {leave : Bool} {before session : Lent} {answer : Released} (made : leav
         few = omega (arith, a.after, length-refusal why);
       }
 
-  pub released-none : {why : Refusal} {buffer : List ℕ} {at : ℕ} → answer ≡ released.Refused why → leave ≡ false → at ≤ length buffer
+  pub released-none : {why : Refusal} {buffer : List ℕ} {at : ℕ} → answer ≡ Err why → leave ≡ false → at ≤ length buffer
       → ReleasesOne leave (view_in before) buffer at session at false buffer
   released-none {why} is silent inside =
       let text = (none is).0 ∙ ap (λ (b : Bool). cond b (refusal_line why) []) silent in

@@ -17,10 +17,8 @@ fn is_plain(s: &[u8], at: usize) -> bool
     ensures { result ≡ all_below looked_at (plain_at s.now at) }
 {
     let mut plain = true;
-    let mut j = 0;
-    while j < Line::NEAR {
+    for j in 0..Line::NEAR {
         plain = plain & (s[at + j] != Line::FEED);
-        j += 1;
     }
     plain
 }
@@ -30,14 +28,12 @@ fn find_from(s: &[u8], from: usize) -> usize
     requires { Begun s.now from }
     ensures { Found s.now result }
 {
-    let mut at = from;
-    while at < s.len() {
+    for at in from..s.len() {
         if s[at] == Line::FEED {
             return at;
         }
-        at += 1;
     }
-    at
+    s.len()
 }
 
 // Where the first line feed is; the length if there is none.
@@ -45,6 +41,7 @@ pub fn find_feed(s: &[u8]) -> usize
     ensures { Found s.now result }
 {
     let mut at = 0;
+    // The place moves by as many characters as are checked together.
     while Line::NEAR <= s.len() - at {
         if !is_plain(s, at) {
             return find_from(s, at);
@@ -54,29 +51,16 @@ pub fn find_feed(s: &[u8]) -> usize
     find_from(s, at)
 }
 
-// The smaller of two.
-fn least(a: usize, b: usize) -> usize
-    ensures { result ≡ min a b }
-{
-    if a < b {
-        return a;
-    }
-    b
-}
-
 // Appends characters to the line that has begun. Of a line that is too long, it keeps just enough to know that it is too long.
 pub fn keep_line(line: &mut [u8], begun: usize, more: &[u8]) -> usize
     requires { LineIn line.old begun }
     ensures { LineKept line.old begun more.now line.new result }
 {
     let room = Line::KEPT - begun;
-    let count = least(room, more.len());
-    let mut j = 0;
-    while j < count {
-        line[begun + j] = more[j];
-        j += 1;
-    }
-    begun + count
+    let count = room.min(more.len());
+    let end = begun + count;
+    line[begun..end].copy_from_slice(&more[..count]);
+    end
 }
 
 // Clears the buffer for a line: no line has begun, and all is zeros.
@@ -84,11 +68,7 @@ pub fn clear_line(line: &mut [u8], begun: usize)
     requires { LineIn line.old begun }
     ensures { LineIn line.new 0 }
 {
-    let mut left = begun;
-    while left > 0 {
-        left -= 1;
-        line[left] = 0;
-    }
+    line[..begun].fill(0);
 }
 
 // Takes the next line of s, or as much of it as there is, from where the last one ended. The line that has begun is at the front of line.
@@ -110,9 +90,11 @@ fn take_line(
         (lent result.base result.counts table.new octets.new messages.new) line.new result.begun
         result.taken out.new result.end }
 {
-    let base = from.base;
-    let counts = from.counts;
-    let at = from.end;
+    let Stepped {
+        base,
+        counts,
+        end: at,
+    } = from;
     let stop = find_feed(s);
     if s.len() <= stop {
         let kept = keep_line(line, begun, s);
@@ -127,15 +109,12 @@ fn take_line(
     let taken = stop + 1;
     if begun == 0 {
         let made = step(base, counts, table, octets, messages, &s[..stop], out, at);
-        let after = made.base;
-        let moves = made.counts;
-        let end = made.end;
         return Fed {
-            base: after,
-            counts: moves,
+            base: made.base,
+            counts: made.counts,
             begun: 0,
             taken,
-            end,
+            end: made.end,
         };
     }
     let kept = keep_line(line, begun, &s[..stop]);
@@ -150,15 +129,12 @@ fn take_line(
         at,
     );
     clear_line(line, kept);
-    let after = made.base;
-    let moves = made.counts;
-    let end = made.end;
     Fed {
-        base: after,
-        counts: moves,
+        base: made.base,
+        counts: made.counts,
         begun: 0,
         taken,
-        end,
+        end: made.end,
     }
 }
 
@@ -186,6 +162,7 @@ pub fn take_block(
     let mut kept = begun;
     let mut taken = 0;
     let mut end = 0;
+    // The place moves by what a turn took.
     while taken < block.len() {
         if out.len() - end < Line::STEP {
             return Fed {
@@ -212,8 +189,7 @@ pub fn take_block(
             out,
         );
         after = part.base;
-        let moved = part.counts;
-        moves = moved;
+        moves = part.counts;
         kept = part.begun;
         taken += part.taken;
         end = part.end;

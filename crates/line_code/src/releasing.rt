@@ -11,9 +11,8 @@ use crate::results::{kind_octet, put_kept, put_refusal};
 use datagram::Packet;
 use line::Stepped;
 use session_held::{Counts, Session};
-use session_release::Released;
 
-// A release, and whether there was something to release.
+// A release, and whether there was something to release. The other fields hold in either case, so `more` is a flag beside them.
 #[derive(Drop)]
 struct Turn {
     base: u16,
@@ -52,7 +51,7 @@ fn release(
     let moved = done.counts;
     let answer = done.answer;
     match answer {
-        Released::Refused(why) => {
+        Err(why) => {
             if skip {
                 let told = put_refusal(why, out, at);
                 return Turn {
@@ -69,14 +68,9 @@ fn release(
                 more: false,
             }
         }
-        Released::Number {
-            kind,
-            number,
-            note: _,
-            size,
-        } => {
-            let octet = kind_octet(kind);
-            let end = put_kept(octet, number, size, octets, out, at);
+        Ok(left) => {
+            let octet = kind_octet(left.kind);
+            let end = put_kept(octet, left.number, left.size, octets, out, at);
             Turn {
                 base: after,
                 counts: moved,
@@ -108,32 +102,20 @@ pub fn releases(
     let mut now = base;
     let mut moves = counts;
     let mut end = at;
-    let mut left = turns;
-    while left > 0 {
-        let skip = Session::HEARD < left;
+    for i in 0..turns {
+        let skip = Session::HEARD < turns - i;
         let slot = session_held::kept_slot(now);
         let known = session_held::is_known(table, slot);
-        let stops = !known & !skip;
-        if stops {
-            return Stepped {
-                base: now,
-                counts: moves,
-                end,
-            };
+        if !known && !skip {
+            break;
         }
         let turn = release(now, moves, table, octets, messages, skip, out, end);
         now = turn.base;
-        let moved = turn.counts;
-        moves = moved;
+        moves = turn.counts;
         end = turn.end;
         if !turn.more {
-            return Stepped {
-                base: now,
-                counts: moves,
-                end,
-            };
+            break;
         }
-        left -= 1;
     }
     Stepped {
         base: now,

@@ -39,10 +39,8 @@ fn put_result(kind: u8, number: u16, octets: &[u8], out: &mut [u8], at: usize) -
     requires { at + (7 + 2 * length octets.now) ≤ length out.old }
     ensures { Appends (result_line kind number octets.now) out.old at out.new result }
 {
-    let high = (number / 256) as u8;
-    let low = (number % 256) as u8;
-    let front = [kind, high, low];
-    let middle = put_digits(&front, out, at);
+    let [high, low] = number.to_be_bytes();
+    let middle = put_digits(&[kind, high, low], out, at);
     let end = put_digits(octets, out, middle);
     end_line(out, end)
 }
@@ -72,7 +70,7 @@ pub fn put_refusal(why: Refusal, out: &mut [u8], at: usize) -> usize
     requires { at + 9 ≤ length out.old }
     ensures { Appends (refusal_line why) out.old at out.new result }
 {
-    let number = why.number;
+    let number = why.number();
     let place = why.place;
     let high = (place / 256 % 256) as u8;
     let low = (place % 256) as u8;

@@ -12,11 +12,9 @@ ghost use Rattle.line_code.specs.Turns.{own_answer, turns_after};
 use crate::releasing::releases;
 use crate::results::put_refusal;
 use datagram::Datagram;
-use length::Written;
 use line::Stepped;
 use line_hex::hex_to_octets;
 use session_held::{Counts, Session};
-use session_offer::Offered;
 
 // Offers octets: only a refusal is a line. Base and counts are unchanged.
 fn offer_octets(
@@ -38,8 +36,8 @@ fn offer_octets(
 {
     let answer = session_offer::offer_core(base, counts, table, octets, messages, datagram);
     match answer {
-        Offered::Accepted => at,
-        Offered::Refused(why) => put_refusal(why, out, at),
+        Ok(()) => at,
+        Err(why) => put_refusal(why, out, at),
     }
 }
 
@@ -62,7 +60,7 @@ fn offer_line(
     let mut work = [0u8; Datagram::LIMIT];
     let read = hex_to_octets(line, &mut work);
     match read {
-        Written::Octets(size) => offer_octets(
+        Ok(size) => offer_octets(
             base,
             counts,
             table,
@@ -72,7 +70,7 @@ fn offer_line(
             out,
             at,
         ),
-        Written::Refused(why) => put_refusal(why, out, at),
+        Err(why) => put_refusal(why, out, at),
     }
 }
 
@@ -92,20 +90,22 @@ fn own_answer(
         messages.old))) out.old at (lent base counts table.new octets.new messages.new)
         result out.new }
 {
-    if line.len() == 0 {
-        return at;
+    if line.is_empty() {
+        at
+    } else {
+        offer_line(base, counts, table, octets, messages, line, out, at)
     }
-    offer_line(base, counts, table, octets, messages, line, out, at)
 }
 
 // How many turns of releasing follow a line.
 fn turns_after(line: &[u8]) -> usize
     ensures { result ≡ turns_after line.now }
 {
-    if line.len() == 0 {
-        return Session::HEARD + 1;
+    if line.is_empty() {
+        Session::HEARD + 1
+    } else {
+        Session::HEARD
     }
-    Session::HEARD
 }
 
 // One line: its answer, then releases. An empty line is one release with leave to skip, then releases without leave (rule 18.2).

@@ -25,13 +25,9 @@ unfolding all_below digit_of agree
 all_tested = refl
 
 -- the test of a character
-pub digit-told : {c d l : ℕ} → c < 256 → (d + 48) % 256 ≡ c → d < 256 → (l + 97) % 256 ≡ bit_or c 32 → l < 256
-    → (ltb d 10 || ltb l 6) ≡ ltb (digit_of c) no_digit
-digit-told {c} {d} {l} octet wd sd wl sl =
-    let d-is : d ≡ (c + 208) % 256 = omega arith in
-    let l-is : l ≡ (bit_or c 32 + 159) % 256 = omega arith in
-    ap₂ (λ (x y : ℕ). ltb x 10 || ltb y 6) d-is l-is
-    ∙ agree_same (tested c) (ltb (digit_of c) no_digit) (all_below-at 256 (λ c. agree (tested c) (ltb (digit_of c) no_digit)) all_tested c octet)
+pub digit-told : {c : ℕ} → c < 256 → tested c ≡ ltb (digit_of c) no_digit
+digit-told {c} octet =
+    agree_same (tested c) (ltb (digit_of c) no_digit) (all_below-at 256 (λ c. agree (tested c) (ltb (digit_of c) no_digit)) all_tested c octet)
 
 abbrev halves : ℕ → Bool
 halves c = cond (ltb (digit_of c) no_digit) (eqb (c % 16 + 9 * (c / 64)) (digit_of c)) true

@@ -1,5 +1,5 @@
 -- The loops over digits on plain values, and one law for each answer of `hex_to_octets`. Assumes nothing.
-use Rattle.std.proofs.Common.{◌≡◌, ℕ, ◌+◌, ◌*◌, ◌/◌, ◌%◌, ◌<◌, ◌≤◌, Bool, true, false, ◌&&◌, ltb, List, [], ◌∷◌, ◌++◌, length, get_or, take, drop, set, sym, refl, ap, ◌∙◌, ap₂, append_assoc, mod-eq_of_lt, add-one, arith, length-set, take-suc, ltb-true, le-ltb, lt-ltb, eq-eqb, ne_eqb}
+use Rattle.std.proofs.Common.{◌≡◌, ℕ, ◌+◌, ◌*◌, ◌/◌, ◌%◌, ◌<◌, ◌≤◌, Bool, true, false, ◌&&◌, ltb, List, [], ◌∷◌, ◌++◌, length, get_or, take, drop, set, sym, refl, ap, ◌∙◌, ap₂, append_assoc, mod-eq_of_lt, add-one, arith, length-set, take-suc, ltb-true, le-ltb, lt-ltb, eq-eqb, ne_eqb, Ok, Err}
 use lib.Seq.{take-length}
 use Rattle.octets.specs.Place.{all_below}
 use Rattle.octets.proofs.Laws.{all_below-more, all_below-at, tab-at}
@@ -8,7 +8,6 @@ use Rattle.length.specs.Answers.{done}
 use Rattle.length.specs.Tables.{unless}
 use Rattle.length.specs.Promise.{Put, Puts, RefusalMade}
 use Rattle.length.specs.declared.Refusal.{Refusal}
-use Rattle.length.specs.declared.Written.TheVariants as written
 use Rattle.length.proofs.Laws.{put-none, put-turn, put_all, put-puts, full-puts}
 use Rattle.line.specs.Hex.{line_limit, digit_of, digit_for, no_digit, all_digits, pair_at, octets_in, line_octets, hex_of}
 use Rattle.line.specs.Promise.{Appends}
@@ -83,13 +82,13 @@ digits-read line short even told passed =
     rw (le-ltb line_limit (length line) short, eq-eqb (length line % 2) 0 even, every)
 
 module _ (line : List ℕ) {old : List ℕ} where
-  pub octets-long : {r : Refusal} → RefusalMade too_long r → line_limit < length line → Puts (line_octets line) old old (written.Refused r)
+  pub octets-long : {r : Refusal} → RefusalMade too_long r → line_limit < length line → Puts (line_octets line) old old (Err r)
   unfolding line_octets unless
   octets-long made long =
       record { answer = rw (made.answer, lt-ltb line_limit (length line) long); lent = rw (lt-ltb line_limit (length line) long) }
 
   pub octets-odd : {r : Refusal} → RefusalMade wrong_settings r → length line ≤ line_limit → (length line % 2 ≡ 0 → ⊥)
-      → Puts (line_octets line) old old (written.Refused r)
+      → Puts (line_octets line) old old (Err r)
   unfolding line_octets unless
   octets-odd made short odd =
       record {
@@ -98,7 +97,7 @@ module _ (line : List ℕ) {old : List ℕ} where
       }
 
   pub octets-undigit : {r : Refusal} {all : Bool} → RefusalMade wrong_settings r → length line ≤ line_limit → length line % 2 ≡ 0
-      → all ≡ all_digits line → all ≡ false → Puts (line_octets line) old old (written.Refused r)
+      → all ≡ all_digits line → all ≡ false → Puts (line_octets line) old old (Err r)
   unfolding line_octets unless
   octets-undigit made short even told not =
       let none : all_digits line ≡ false = sym told ∙ not in
@@ -108,14 +107,14 @@ module _ (line : List ℕ) {old : List ℕ} where
       }
 
   pub octets-full : {r : Refusal} {all : Bool} → RefusalMade no_room r → length line ≤ line_limit → length line % 2 ≡ 0
-      → all ≡ all_digits line → all ≡ true → length old < length line / 2 → Puts (line_octets line) old old (written.Refused r)
+      → all ≡ all_digits line → all ≡ true → length old < length line / 2 → Puts (line_octets line) old old (Err r)
   octets-full made short even told passed full =
       let long = length-octets_in line in
       rw (digits-read line short even told passed) (full-puts made (omega arith))
 
   pub octets-read : {all : Bool} {new : List ℕ} → length line ≤ line_limit → length line % 2 ≡ 0
       → all ≡ all_digits line → all ≡ true → length line / 2 ≤ length old → new ≡ octets_in line ++ drop (length line / 2) old
-      → Puts (line_octets line) old new (written.Octets (length line / 2))
+      → Puts (line_octets line) old new (Ok (length line / 2))
   octets-read short even told passed room read =
       let long = length-octets_in line in
       let front = read ∙ ap (λ (k : ℕ). octets_in line ++ drop k old) (sym long) in

@@ -1,12 +1,15 @@
 -- The loops that make octets of digits, sixteen together, on plain values. Each of the two inner loops has done its first j octets.
 -- The outer loop has made the first i octets of the line and left the rest of the buffer. The last sixteen may make some octets
 -- again: they are the same octets, so a place before i and a place after are told by the same law. Assumes nothing.
-use Rattle.std.proofs.Common.{◌≡◌, ℕ, ◌+◌, ◌-◌, ◌*◌, ◌/◌, ◌%◌, ◌<◌, ◌≤◌, true, List, ◌++◌, length, get_or, drop, set, sym, refl, ap, ◌∙◌, ap₂, ⊎_elim, mod-eq_of_lt, arith, length-append, length-drop, length-set, get_or-drop, get_or-set_other, get_or-set_same, get_or-append-add}
+use Rattle.std.proofs.Common.{◌≡◌, ℕ, ◌+◌, ◌-◌, ◌*◌, ◌/◌, ◌%◌, ◌<◌, ◌≤◌, true, List, ◌++◌, length, get_or, drop, set, sym, refl, ap, ◌∙◌, ap₂, ⊎_elim, mod-eq_of_lt, arith, rules, take, length-append, length-drop, length-set, get_or-drop, get_or-set_other, get_or-set_same, get_or-append-add}
 use lib.ListN.{get_or-append}
+use borrow.Rule.Slice.PartMut.{put_mid}
+use lib.Seq.{length-take-le}
+use Rattle.std.proofs.lemmas.List.{places}
 use Rattle.octets.specs.Place.{tab}
 use Rattle.octets.proofs.Laws.{tab-ext, tab-get_d, below_or_not, same_or_not}
 use Rattle.line.specs.Hex.{digit_of, all_digits, octets_in, pair_at}
-use Rattle.line_hex.specs.Near.{together, NearRead, NearPut}
+use Rattle.line_hex.specs.Near.{together, NearRead}
 use Rattle.line.proofs.Laws.{length-octets_in}
 use Rattle.line_hex.proofs.HexSteps.{digit-small, octets_in-at}
 
@@ -45,47 +48,26 @@ nearing-turn {line} {chunk} {from} {j} {high} {low} n more inside all h l =
 pub nearing-done : {line chunk : List ℕ} {from j : ℕ} → Nearing line from chunk j → together ≤ j → NearRead line from chunk
 nearing-done {line} {chunk} {from} {j} n whole = record { read = λ k below. n.read k (omega (arith, below, whole)) }
 
--- ---- putting: the first j octets of the chunk stand from place `from` on
-pub record Putting (chunk : List ℕ) (from : ℕ) (old new : List ℕ) (j : ℕ) : Type 0 where
+-- ---- putting
+-- the octets of the chunk are at place `from` and behind it, and all else is unchanged
+pub record NearPut (chunk : List ℕ) (from : ℕ) (old new : List ℕ) : Type 0 where
   pub long : length new ≡ length old
-  pub inside : (k : ℕ) → k < j → get_or new (from + k) 0 ≡ get_or chunk k 0
+  pub inside : (k : ℕ) → k < together → get_or new (from + k) 0 ≡ get_or chunk k 0
   pub before : (k : ℕ) → k < from → get_or new k 0 ≡ get_or old k 0
-  pub after : (k : ℕ) → from + j ≤ k → get_or new k 0 ≡ get_or old k 0
-  pub few : j ≤ together
+  pub after : (k : ℕ) → from + together ≤ k → get_or new k 0 ≡ get_or old k 0
 
-pub putting-start : (chunk old : List ℕ) (from : ℕ) → Putting chunk from old old 0
-putting-start chunk old from =
-    record { long = refl; inside = λ k below. absurd (omega (arith, below)); before = λ k _. refl; after = λ k _. refl; few = omega arith }
-
-pub putting-turn : {chunk old new : List ℕ} {from j : ℕ} → Putting chunk from old new j → j < together
-    → from + together ≤ length old → Putting chunk from old (set new (from + j) (get_or chunk j 0)) (j + 1)
-putting-turn {chunk} {old} {new} {from} {j} p more room =
+-- a chunk that was copied into its place
+pub near-put : {chunk old part : List ℕ} {from n : ℕ} → part ≡ chunk → n ≡ together → from + together ≤ length old
+    → length part ≡ length (take n (drop from old)) → NearPut chunk from old (put_mid from n old part)
+near-put {chunk} {old} {part} {from} {n} same size room as-long =
+    let front : length (take from old) ≡ from = length-take-le from old (omega arith) in
+    let rest : length (drop from old) ≡ length old - from = length-drop from old in
+    let long : length part ≡ together = as-long ∙ length-take-le n (drop from old) (omega arith) ∙ size in
     record {
-      long = length-set new (from + j) _ ∙ p.long;
-      inside =
-          λ k below.
-          ⊎_elim
-          (λ e.
-          ap (λ (q : ℕ). get_or (set new (from + j) (get_or chunk j 0)) (from + q) 0) e
-          ∙ get_or-set_same new (from + j) _ 0 (omega (arith, p.long))
-          ∙ ap (λ (q : ℕ). get_or chunk q 0) (sym e))
-          (λ other.
-          get_or-set_other new (from + j) (from + k) _ 0 (λ e. other (omega (arith, e)))
-          ∙ p.inside k (omega (arith, below, other)))
-          (same_or_not k j);
-      before = λ k below. get_or-set_other new (from + j) k _ 0 (λ e. omega (arith, e, below)) ∙ p.before k below;
-      after =
-          λ k past. get_or-set_other new (from + j) k _ 0 (λ e. omega (arith, e, past)) ∙ p.after k (omega (arith, past));
-      few = omega arith;
-    }
-
-pub putting-done : {chunk old new : List ℕ} {from j : ℕ} → Putting chunk from old new j → together ≤ j → NearPut chunk from old new
-putting-done {chunk} {old} {new} {from} {j} p whole =
-    record {
-      long = p.long;
-      inside = λ k below. p.inside k (omega (arith, below, whole));
-      before = p.before;
-      after = λ k past. p.after k (omega (arith, past, p.few));
+      long = simp (length-append, length-drop) (omega (arith, front));
+      inside = λ k below. rw (← same) (search (rules, places));
+      before = λ k below. search (rules, places);
+      after = λ k past. search (rules, places);
     }
 
 -- ---- the whole line: the first i octets are made, and the rest is as it was

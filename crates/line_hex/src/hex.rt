@@ -4,17 +4,17 @@ ghost use Rattle.std.specs.Prelude.{◌≡◌, ◌+◌, ◌*◌, ◌/◌, ◌%�
 ghost use Rattle.length.specs.Promise.{Puts};
 ghost use Rattle.line.specs.Hex.{no_digit, digit_of, digit_for, all_digits, octets_in, line_octets, hex_of};
 ghost use Rattle.line.specs.Promise.{Appends};
-ghost use Rattle.line_hex.specs.Near.{together, NearRead, NearPut};
+ghost use Rattle.line_hex.specs.Near.{together, NearRead};
 
-use length::{Refusal, Written};
+use length::{Reason, Refusal};
 use line::Line;
 
 // Whether a character is a digit. A letter's two cases differ in one bit.
 fn is_digit(c: u8) -> bool
     ensures { result ≡ nat_lt (digit_of c) no_digit }
 {
-    let decimal = std::num::wrapping_sub_u8(c, b'0');
-    let letter = std::num::wrapping_sub_u8(c | 32, b'a');
+    let decimal = c.wrapping_sub(b'0');
+    let letter = (c | 32).wrapping_sub(b'a');
     (decimal < 10) | (letter < 6)
 }
 
@@ -31,10 +31,7 @@ fn digit_for(n: u8) -> u8
     requires { n < 16 }
     ensures { result ≡ digit_for n }
 {
-    if n < 10 {
-        return b'0' + n;
-    }
-    b'A' + (n - 10)
+    if n < 10 { b'0' + n } else { b'A' + (n - 10) }
 }
 
 // Whether every character is a digit.
@@ -42,10 +39,8 @@ pub fn all_digits(line: &[u8]) -> bool
     ensures { result ≡ all_digits line.now }
 {
     let mut all = true;
-    let mut i = 0;
-    while i < line.len() {
-        all = all & is_digit(line[i]);
-        i += 1;
+    for c in line {
+        all = all & is_digit(*c);
     }
     all
 }
@@ -57,27 +52,13 @@ fn near(line: &[u8], from: usize) -> [u8; Line::TOGETHER]
     ensures { NearRead line.now from result }
 {
     let mut chunk = [0u8; Line::TOGETHER];
-    let mut j = 0;
-    while j < Line::TOGETHER {
+    for j in 0..Line::TOGETHER {
         let at = 2 * (from + j);
         let high = value(line[at]);
         let low = value(line[at + 1]);
         chunk[j] = (high % 16) * 16 + (low % 16);
-        j += 1;
     }
     chunk
-}
-
-// Writes them to out, from place `from` on.
-fn put_near(chunk: [u8; Line::TOGETHER], out: &mut [u8], from: usize)
-    requires { from + together ≤ length out.old }
-    ensures { NearPut chunk from out.old out.new }
-{
-    let mut j = 0;
-    while j < Line::TOGETHER {
-        out[from + j] = chunk[j];
-        j += 1;
-    }
 }
 
 // The octets of a line of paired digits, to the front of out, one at a time.
@@ -86,14 +67,11 @@ fn pair_few(line: &[u8], out: &mut [u8])
     requires line_in_bounds { length line.now / 2 ≤ length out.old }
     ensures { out.new ≡ octets_in line.now ++ drop (length line.now / 2) out.old }
 {
-    let n = line.len() / 2;
-    let mut i = 0;
-    while i < n {
+    for i in 0..line.len() / 2 {
         let at = 2 * i;
         let high = value(line[at]);
         let low = value(line[at + 1]);
         out[i] = (high % 16) * 16 + (low % 16);
-        i += 1;
     }
 }
 
@@ -110,37 +88,36 @@ pub fn pair_up(line: &[u8], out: &mut [u8])
     }
     let last = n - Line::TOGETHER;
     let mut i = 0;
+    // The place moves by as many octets as are converted together.
     while i < last {
-        let chunk = near(line, i);
-        put_near(chunk, out, i);
+        out[i..i + Line::TOGETHER].copy_from_slice(&near(line, i));
         i += Line::TOGETHER;
     }
-    let chunk = near(line, last);
-    put_near(chunk, out, last);
+    out[last..n].copy_from_slice(&near(line, last));
 }
 
 // The octets of a line, to the front of out: 2 for a line that is too long, then 15 for one that is not made of paired digits, then 13
 // (rules 18.10, 18.11 and 2.13).
-pub fn hex_to_octets(line: &[u8], out: &mut [u8]) -> Written
+pub fn hex_to_octets(line: &[u8], out: &mut [u8]) -> Result<usize, Refusal>
     ensures { Puts (line_octets line.now) out.old out.new result }
 {
     let size = line.len();
     if Line::LIMIT < size {
-        return Written::Refused(Refusal::new(Refusal::TOO_LONG));
+        return Err(Refusal::new(Reason::TooLong));
     }
     let odd = size % 2;
     if odd != 0 {
-        return Written::Refused(Refusal::new(Refusal::WRONG_SETTINGS));
+        return Err(Refusal::new(Reason::WrongSettings));
     }
     if !all_digits(line) {
-        return Written::Refused(Refusal::new(Refusal::WRONG_SETTINGS));
+        return Err(Refusal::new(Reason::WrongSettings));
     }
     let count = size / 2;
     if out.len() < count {
-        return Written::Refused(Refusal::new(Refusal::NO_ROOM));
+        return Err(Refusal::new(Reason::NoRoom));
     }
     pair_up(line, out);
-    Written::Octets(count)
+    Ok(count)
 }
 
 // Writes two digits for each octet to out, from place `at` on, and returns the place after them.
@@ -148,13 +125,10 @@ pub fn put_digits(octets: &[u8], out: &mut [u8], at: usize) -> usize
     requires { at + 2 * length octets.now ≤ length out.old }
     ensures { Appends (hex_of octets.now) out.old at out.new result }
 {
-    let mut i = 0;
-    while i < octets.len() {
-        let octet = octets[i];
+    for (i, octet) in octets.iter().enumerate() {
         let place = at + 2 * i;
-        out[place] = digit_for(octet / 16);
-        out[place + 1] = digit_for(octet % 16);
-        i += 1;
+        out[place] = digit_for(*octet / 16);
+        out[place + 1] = digit_for(*octet % 16);
     }
     at + 2 * octets.len()
 }

@@ -7,43 +7,38 @@ mod saved;
 mod text;
 
 use datagram::{Datagram, Packet};
-use length::Written;
+use length::Refusal;
 use line::Line;
-use program_input::{BLOCK, read_line};
+use program_input::Lines;
 use saved::SAVED;
-use session_calls::{Offered, Released, Session};
-use std::io::{Read, Write};
-use text::{part, say_refused};
+use session_calls::{Released, Session};
+use std::io::Write;
+use text::say_refused;
 
 // Writes what a release returned, and returns whether a number left. A refusal is written only with leave to skip, as in `receive` (rules
 // 18.3 and 18.4).
 fn told<W: Write>(
     output: &mut W,
-    answer: Released,
+    answer: Result<Released, Refusal>,
     skip: bool,
     line: usize,
     table: &mut [u32; SAVED],
 ) -> bool {
     match answer {
-        Released::Refused(why) => {
+        Err(why) => {
             if skip {
                 say_refused(output, line, why);
             }
             false
         }
-        Released::Number {
-            kind,
-            number,
-            note,
-            size: _,
-        } => {
-            saved::told(output, kind, number, note, table);
+        Ok(left) => {
+            saved::told(output, left.kind, left.number, left.note, table);
             true
         }
     }
 }
 
-// One release, with leave to skip or without: the session after it, and whether a number left.
+// One release, with leave to skip or without: the session after it, in either case, and whether a number left.
 #[derive(Drop)]
 struct Turn {
     session: Session,
@@ -76,14 +71,11 @@ fn releases<W: Write>(
     table: &mut [u32; SAVED],
 ) -> Session {
     let mut held = session;
-    let mut left: usize = Session::HEARD;
-    while left > 0 {
-        left -= 1;
+    for _ in 0..Session::HEARD {
         let turn = release(output, held, false, line, table);
-        let next = turn.session;
-        held = next;
+        held = turn.session;
         if !turn.more {
-            return held;
+            break;
         }
     }
     held
@@ -92,12 +84,10 @@ fn releases<W: Write>(
 // Offers a datagram.
 fn offer<W: Write>(output: &mut W, session: Session, octets: &[u8], line: usize) -> Session {
     let after = session_calls::offer(session, octets);
-    let answer = after.answer;
-    if let Offered::Refused(why) = answer {
+    if let Err(why) = after.answer {
         say_refused(output, line, why);
     }
-    let held = after.session;
-    held
+    after.session
 }
 
 // An empty line is one release with leave to skip (rule 18.2); any other line is a datagram in hexadecimal.
@@ -108,84 +98,32 @@ fn answer<W: Write>(
     line: usize,
     table: &mut [u32; SAVED],
 ) -> Session {
-    if digits.len() == 0 {
-        let turn = release(output, session, true, line, table);
-        let held = turn.session;
-        return held;
+    if digits.is_empty() {
+        return release(output, session, true, line, table).session;
     }
     let mut octets = [0u8; Datagram::LIMIT];
     match line_hex::hex_to_octets(digits, &mut octets) {
-        Written::Refused(why) => {
+        Err(why) => {
             say_refused(output, line, why);
             session
         }
-        Written::Octets(count) => offer(output, session, part(&octets, 0, count), line),
+        Ok(count) => offer(output, session, &octets[..count], line),
     }
-}
-
-// Answers a line of `size` characters, and does the releases after it.
-fn answered<W: Write>(
-    output: &mut W,
-    session: Session,
-    digits: &[u8; Line::KEPT],
-    size: usize,
-    line: usize,
-    table: &mut [u32; SAVED],
-) -> Session {
-    let held = answer(output, session, part(digits, 0, size), line, table);
-    releases(output, held, line, table)
-}
-
-// Answers one line of the input. A last line without a line feed counts unless it is empty (rule 18.8).
-fn take_line<R: Read, W: Write>(
-    input: &mut R,
-    output: &mut W,
-    session: Session,
-    block: &mut [u8; BLOCK],
-    at: &mut usize,
-    end: &mut usize,
-    digits: &mut [u8; Line::KEPT],
-    line: usize,
-    table: &mut [u32; SAVED],
-) -> Session {
-    let size = read_line(input, block, at, end, digits);
-    if (*end == 0) & (size == 0) {
-        return session;
-    }
-    answered(output, session, digits, size, line, table)
 }
 
 fn main(rt: HostRuntime) {
-    let mut input = rt.stdin();
+    let mut lines = Lines::new(rt.stdin());
     let mut output = rt.stdout();
     let mut session = Session::fresh();
     let mut table = [0u32; SAVED];
-    let mut block = [0u8; BLOCK];
-    let mut digits = [0u8; Line::KEPT];
-    let mut at = 0;
-    let mut end = 0;
-    let mut line = 0;
-    // The input need not end, so the loop counts its turns down from a number that no run uses up.
-    let mut turns = u64::MAX;
-    while turns > 0 {
-        turns -= 1;
-        line = std::num::wrapping_add_usize(line, 1);
-        let next = take_line(
-            &mut input,
-            &mut output,
-            session,
-            &mut block,
-            &mut at,
-            &mut end,
-            &mut digits,
-            line,
-            &mut table,
-        );
-        session = next;
-        if end == 0 {
-            turns = 0;
-        }
+    let mut kept = [0u8; Line::KEPT];
+    // The input need not end, so the lines are counted up to a number that no run reaches.
+    for line in 1..usize::MAX {
+        let Some(digits) = lines.next_line(&mut kept, b"") else {
+            break;
+        };
+        let held = answer(&mut output, session, digits, line, &mut table);
+        session = releases(&mut output, held, line, &mut table);
     }
-    let counts = session.counts;
-    saved::say_report(&mut output, counts, &table);
+    saved::say_report(&mut output, session.counts, &table);
 }

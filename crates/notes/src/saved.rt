@@ -4,35 +4,31 @@ use session_held::{Counts, ReleaseKind};
 use std::io::Write;
 
 // The greatest distance that has a row of its own.
-const FURTHEST: u16 = 32;
+const FURTHEST: usize = 32;
 
 // A count for each distance; the first is for datagrams that are not 1 to 32 ahead of the number that they filled (rule 19.3).
-const ROWS: usize = FURTHEST as usize + 1;
+const ROWS: usize = FURTHEST + 1;
 
 // The counts of spares, then those of parity.
 pub const SAVED: usize = 2 * ROWS;
 
 // How far ahead of a number the datagram is that filled it; 0 if that is not 1 to 32.
 fn ahead(number: u16, note: u16) -> usize {
-    let distance = std::num::wrapping_sub_u16(note, number);
-    if distance <= FURTHEST {
-        return distance as usize;
-    }
-    0
+    let distance = usize::from(note.wrapping_sub(number));
+    if distance <= FURTHEST { distance } else { 0 }
 }
 
 // The end of a line: the datagram that filled the number.
 fn say_filler<W: Write>(output: &mut W, how: &[u8], note: u16) {
     say(output, how);
-    say_number(output, note as usize);
+    say_number(output, usize::from(note));
     say(output, b"\n");
 }
 
 // Counts one more number: the rows of spares begin at 0, those of parity behind them.
 fn count(first: usize, number: u16, note: u16, table: &mut [u32; SAVED]) {
-    let row = std::num::wrapping_add_usize(first, ahead(number, note)) % SAVED;
-    let before = table[row];
-    table[row] = std::num::wrapping_add_u32(before, 1);
+    let row = first.wrapping_add(ahead(number, note)) % SAVED;
+    table[row] = table[row].wrapping_add(1);
 }
 
 // Writes the line of a number that leaves (rule 19.1).
@@ -44,7 +40,7 @@ pub fn told<W: Write>(
     table: &mut [u32; SAVED],
 ) {
     say(output, b"number ");
-    say_number(output, number as usize);
+    say_number(output, usize::from(number));
     match kind {
         ReleaseKind::Lost => say(output, b": lost\n"),
         ReleaseKind::Received => say(output, b": received\n"),
@@ -61,20 +57,17 @@ pub fn told<W: Write>(
 
 fn say_count<W: Write>(output: &mut W, name: &[u8], n: u32) {
     say(output, name);
-    say_number(output, wide(n));
-}
-
-fn wide(n: u32) -> usize {
-    n as usize
+    let _ = write!(output, "{n}");
 }
 
 // What a row begins with: its distance, or `behind` for the first one.
 fn say_place<W: Write>(output: &mut W, row: usize) {
     if row == 0 {
-        return say(output, b"behind");
+        say(output, b"behind");
+    } else {
+        say(output, b"distance ");
+        say_number(output, row);
     }
-    say(output, b"distance ");
-    say_number(output, row)
 }
 
 // A row of the table, if it is not zero: how many numbers spares and parity saved from that distance.
@@ -82,7 +75,7 @@ fn say_row<W: Write>(output: &mut W, row: usize, table: &[u32; SAVED]) {
     let place = row % ROWS;
     let spares = table[place];
     let parity = table[place + ROWS];
-    if (spares == 0) & (parity == 0) {
+    if spares == 0 && parity == 0 {
         return;
     }
     say_place(output, place);
@@ -93,10 +86,8 @@ fn say_row<W: Write>(output: &mut W, row: usize, table: &[u32; SAVED]) {
 
 // The rows from distance 1 on.
 fn say_rows<W: Write>(output: &mut W, table: &[u32; SAVED]) {
-    let mut row = 1;
-    while row < ROWS {
+    for row in 1..ROWS {
         say_row(output, row, table);
-        row += 1;
     }
 }
 

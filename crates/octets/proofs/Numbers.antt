@@ -1,44 +1,15 @@
--- Laws of words: of a word made of two, of octets and their word, and of the exclusive or, which goes octet by octet. Assumes nothing.
-use Prim.Native.Nat.{ℕ, zero, suc, ◌+◌, ◌*◌, ◌^◌, ◌≤◌, ◌<◌}
-use mathlib.Core.Path.{◌≡◌, refl, sym, ap, ap₂, ◌∙◌}
+-- Laws of words: of octets and their word, and of the exclusive or, which goes octet by octet. Assumes nothing.
+use Prim.Native.Nat.{ℕ, zero, suc, ◌+◌, ◌*◌, ◌≤◌, ◌<◌}
+use mathlib.Core.Path.{◌≡◌, refl, sym, ap₂, ◌∙◌}
 use mathlib.Core.Logic.{⊎_elim}
 use mathlib.Core.List.{List}
 use lib.ListN.{get_or}
 use lib.Bits.{bit_xor, xor_block}
-use native.Mathlib.Nat.{zero-add, add-zero, suc-add, one-mul, mul_assoc, pow-succ'}
 use native.Mathlib.Omega.{arith}
 use Rattle.octets.proofs.Laws.{same_or_not}
 use Rattle.octets.specs.Words.{word_of, OctetsAt}
 
--- ---- a word made of two: the low one, then the high one
-spread : (g a b : ℕ) → g + 256 * (a + b) ≡ g + 256 * a + 256 * b
-spread g a b = omega arith
-
-further : (at m : ℕ) → suc at + m ≡ at + suc m
-further at m = omega arith
-
-pub word_more : (m n : ℕ) (s : List ℕ) (at : ℕ) → word_of (m + n) s at ≡ word_of m s at + 256 ^ m * word_of n s (at + m)
-unfolding word_of
-word_more zero n s at =
-    ap₂ (λ (k p : ℕ). word_of k s p) (zero-add n) (sym (add-zero at))
-    ∙ sym (zero-add (256 ^ zero * word_of n s (at + zero)) ∙ one-mul (word_of n s (at + zero)))
-word_more (suc m) n s at =
-    ap (λ (k : ℕ). word_of k s at) (suc-add m n)
-    ∙ ap (λ (x : ℕ). get_or s at 0 + 256 * x) (word_more m n s (suc at))
-    ∙ spread (get_or s at 0) (word_of m s (suc at)) (256 ^ m * word_of n s (suc at + m))
-    ∙ ap (λ (x : ℕ). get_or s at 0 + 256 * word_of m s (suc at) + x)
-    (sym (mul_assoc 256 (256 ^ m) (word_of n s (suc at + m)))
-    ∙ ap₂ (λ (p k : ℕ). p * word_of n s k) (sym (pow-succ' 256 m)) (further at m))
-
 -- ---- octets and their word
--- the same octets, the same word
-pub word_same : (n : ℕ) (s t : List ℕ) (at : ℕ) → ((j : ℕ) → at ≤ j → j < at + n → get_or s j 0 ≡ get_or t j 0) → word_of n s at ≡ word_of n t at
-unfolding word_of
-word_same zero s t at same = refl
-word_same (suc n) s t at same =
-    ap₂ (λ (x y : ℕ). x + 256 * y) (same at (omega arith) (omega arith))
-    (word_same n s t (suc at) (λ j from to. same j (omega arith) (omega arith)))
-
 -- the same word, the same octets
 digits : (x y v w : ℕ) → x < 256 → y < 256 → x + 256 * v ≡ y + 256 * w → (x ≡ y) × (v ≡ w)
 digits x y v w hx hy e = (omega arith, omega arith)

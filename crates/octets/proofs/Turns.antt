@@ -1,99 +1,110 @@
--- What the functions of this crate do, on plain values: a number read and written, two of them joined, and the two loops. Assumes
--- nothing.
-use Prim.Native.Nat.{ℕ, ◌+◌, ◌-◌, ◌*◌, ◌/◌, ◌%◌, ◌^◌, ◌≤◌, ◌<◌}
+-- What the functions of this crate do, on plain values: eight octets read and written as a number, and the two loops. Assumes nothing.
+use Prim.Native.Nat.{ℕ, zero, suc, ◌+◌, ◌-◌, ◌*◌, ◌/◌, ◌%◌, ◌^◌, ◌≤◌, ◌<◌}
 use mathlib.Core.Path.{◌≡◌, refl, sym, ap, ap₂, ◌∙◌}
 use mathlib.Core.Logic.{⊎_elim}
-use mathlib.Core.List.{List}
-use lib.ListN.{length, get_or, set, length-set}
-use lib.Seq.{ext_get_or, get_or-set_same, get_or-set_other}
+use mathlib.Core.List.{List, [], ◌∷◌, ◌++◌}
+use lib.ListN.{length, get_or, set, take, length-set, get_or-append}
+use lib.Seq.{ext_get_or, get_or-set_same, get_or-set_other, get_or-append-add, length-take-le}
 use lib.Bits.{bit_xor, xor_lt}
-use native.Mathlib.Nat.{add_comm, mul_comm}
 use native.Mathlib.Omega.{arith}
+use borrow.Rule.Slice.PartMut.{put_mid, post_of}
+use Rattle.std.specs.Int.{w64, from_le_bytes, to_le_bytes}
+use Rattle.std.proofs.Common.{rules}
+use Rattle.std.proofs.lemmas.List.{places}
 use Rattle.octets.proofs.Laws.{below_or_not, same_or_not}
 use Rattle.octets.specs.Words.{word_of, OctetsAt, Reads, Spells, both, AddsTo}
-use Rattle.octets.proofs.Numbers.{word_more, word_same, octets-same, word-xor}
+use Rattle.octets.proofs.Numbers.{octets-same, word-xor}
 use Rattle.octets.proofs.WordsLaws.{length_both, both_at}
 
--- ---- one octet
-pub reads-one : (s : List ℕ) (at : ℕ) → get_or s at 0 < 256 → Reads 1 s at (get_or s at 0)
-unfolding word_of
-reads-one s at octet =
-    record {
-      number = omega arith;
-      below = octet;
-      octets =
-          λ j from to.
-          let e : j ≡ at = omega arith in
-          rw e octet;
-    }
+-- ---- eight octets
+same-place : (s : List ℕ) {p q : ℕ} → p ≡ q → get_or s p 0 ≡ get_or s q 0
+same-place s e = ap (λ (k : ℕ). get_or s k 0) e
 
-pub spells_one : (old : List ℕ) (at w : ℕ) → at < length old → w < 256 → Spells 1 w old at (set old at w)
-unfolding word_of
-spells_one old at w inside small =
-    let there = get_or-set_same old at w 0 inside in
-    record {
-      number = omega arith;
-      octets =
-          λ j from to.
-          let e : j ≡ at = omega arith in
-          rw (e, there) small;
-      before = λ j low. get_or-set_other old at j w 0 (λ e. omega arith);
-      past = λ j high. get_or-set_other old at j w 0 (λ e. omega arith);
-      long = length-set old at w;
-    }
+byte-small : (w j : ℕ) → get_or (to_le_bytes w64 w) j 0 < 256
+byte-small w zero = omega arith
+byte-small w (suc zero) = omega arith
+byte-small w (suc (suc zero)) = omega arith
+byte-small w (suc (suc (suc zero))) = omega arith
+byte-small w (suc (suc (suc (suc zero)))) = omega arith
+byte-small w (suc (suc (suc (suc (suc zero))))) = omega arith
+byte-small w (suc (suc (suc (suc (suc (suc zero)))))) = omega arith
+byte-small w (suc (suc (suc (suc (suc (suc (suc zero))))))) = omega arith
+byte-small w (suc (suc (suc (suc (suc (suc (suc (suc j)))))))) = omega arith
 
--- ---- two joined
-module _ (m n : ℕ) {s : List ℕ} {at low high : ℕ} where
-  reads_more : Reads m s at low → Reads n s (at + m) high → high * 256 ^ m + low < 256 ^ (m + n) → Reads (m + n) s at (high * 256 ^ m + low)
-  reads_more l h small =
+module _ (s : List ℕ) (at : ℕ) where
+  abbrev octet : ℕ → ℕ
+  octet j = get_or s (at + j) 0
+
+  word-eight : word_of 8 s at
+      ≡ get_or s at 0 + octet 1 * 256 + octet 2 * 65536 + octet 3 * 16777216 + octet 4 * 4294967296 + octet 5 * 1099511627776
+      + octet 6 * 281474976710656 + octet 7 * 72057594037927936
+  unfolding word_of
+  word-eight =
+      let e1 = same-place s {p = suc at} {q = at + 1} (omega arith) in
+      let e2 = same-place s {p = suc (suc at)} {q = at + 2} (omega arith) in
+      let e3 = same-place s {p = suc (suc (suc at))} {q = at + 3} (omega arith) in
+      let e4 = same-place s {p = suc (suc (suc (suc at)))} {q = at + 4} (omega arith) in
+      let e5 = same-place s {p = suc (suc (suc (suc (suc at))))} {q = at + 5} (omega arith) in
+      let e6 = same-place s {p = suc (suc (suc (suc (suc (suc at)))))} {q = at + 6} (omega arith) in
+      let e7 = same-place s {p = suc (suc (suc (suc (suc (suc (suc at))))))} {q = at + 7} (omega arith) in
+      omega (arith, e1, e2, e3, e4, e5, e6, e7)
+
+  pub reads-eight : {r : ℕ} → OctetsAt 8 s at
+      → r ≡ from_le_bytes w64 (get_or s at 0 ∷ octet 1 ∷ octet 2 ∷ octet 3 ∷ octet 4 ∷ octet 5 ∷ octet 6 ∷ octet 7 ∷ [])
+      → Reads 8 s at r
+  reads-eight {r} all e =
+      let number : r ≡ get_or s at 0 + octet 1 * 256 + octet 2 * 65536 + octet 3 * 16777216 + octet 4 * 4294967296
+      + octet 5 * 1099511627776 + octet 6 * 281474976710656 + octet 7 * 72057594037927936 = e in
+      let o0 = all at (omega arith) (omega arith) in
+      let o1 = all (at + 1) (omega arith) (omega arith) in
+      let o2 = all (at + 2) (omega arith) (omega arith) in
+      let o3 = all (at + 3) (omega arith) (omega arith) in
+      let o4 = all (at + 4) (omega arith) (omega arith) in
+      let o5 = all (at + 5) (omega arith) (omega arith) in
+      let o6 = all (at + 6) (omega arith) (omega arith) in
+      let o7 = all (at + 7) (omega arith) (omega arith) in
+      record { number = number ∙ sym word-eight; below = omega (arith, number, o0, o1, o2, o3, o4, o5, o6, o7); octets = all }
+
+module _ (old : List ℕ) (at w : ℕ) {ys : List ℕ} (room : at + 8 ≤ length old) (small : w < 2 ^ 64) (is : ys ≡ to_le_bytes w64 w) where
+  abbrev laid : List ℕ
+  laid = put_mid at (at + 8 - at) old ys
+
+  long-take : length (take at old) ≡ at
+  long-take = length-take-le at old (omega arith)
+
+  eight-long : length ys ≡ 8
+  eight-long = ap length is
+
+  same-byte : (j : ℕ) → get_or ys j 0 ≡ get_or (to_le_bytes w64 w) j 0
+  same-byte j = ap (λ (l : List ℕ). get_or l j 0) is
+
+  laid-at : (j : ℕ) → j < 8 → get_or laid (at + j) 0 ≡ get_or ys j 0
+  laid-at j low =
+      ap (λ (k : ℕ). get_or laid (k + j) 0) (sym long-take)
+      ∙ get_or-append-add (take at old) (ys ++ post_of at (at + 8 - at) old) j 0
+      ∙ get_or-append ys (post_of at (at + 8 - at) old) 0 j (omega (arith, eight-long))
+
+  pub spells-eight : Spells 8 w old at laid
+  spells-eight =
+      let o0 : get_or laid at 0 ≡ w % 256 = same-place laid {p = at} {q = at + 0} (omega arith) ∙ laid-at 0 (omega arith) ∙ same-byte 0 in
+      let o1 : get_or laid (at + 1) 0 ≡ w / 256 % 256 = laid-at 1 (omega arith) ∙ same-byte 1 in
+      let o2 : get_or laid (at + 2) 0 ≡ w / 65536 % 256 = laid-at 2 (omega arith) ∙ same-byte 2 in
+      let o3 : get_or laid (at + 3) 0 ≡ w / 16777216 % 256 = laid-at 3 (omega arith) ∙ same-byte 3 in
+      let o4 : get_or laid (at + 4) 0 ≡ w / 4294967296 % 256 = laid-at 4 (omega arith) ∙ same-byte 4 in
+      let o5 : get_or laid (at + 5) 0 ≡ w / 1099511627776 % 256 = laid-at 5 (omega arith) ∙ same-byte 5 in
+      let o6 : get_or laid (at + 6) 0 ≡ w / 281474976710656 % 256 = laid-at 6 (omega arith) ∙ same-byte 6 in
+      let o7 : get_or laid (at + 7) 0 ≡ w / 72057594037927936 % 256 = laid-at 7 (omega arith) ∙ same-byte 7 in
+      let number = word-eight laid at in
       record {
-        number =
-            add_comm (high * 256 ^ m) low
-            ∙ ap₂ (λ (x y : ℕ). x + y) l.number (mul_comm high (256 ^ m) ∙ ap (λ (x : ℕ). 256 ^ m * x) h.number)
-            ∙ sym (word_more m n s at);
-        below = small;
+        number = omega (arith, number, o0, o1, o2, o3, o4, o5, o6, o7);
         octets =
             λ j from to.
-            ⊎_elim (λ below. l.octets j from below) (λ past. h.octets j past (omega arith))
-            (below_or_not j (at + m));
+            let e : j ≡ at + (j - at) = omega arith in
+            rw (same-place laid e ∙ laid-at (j - at) (omega arith) ∙ same-byte (j - at)) (byte-small w (j - at));
+        before = λ j low. search (rules, places, arith, eight-long);
+        past = λ j high. search (rules, places, arith, eight-long);
+        long = search (rules, places, arith, eight-long);
       }
-
-module _ (m n : ℕ) {old mid new : List ℕ} {at low high w : ℕ} where
-  spells-more : Spells m low old at mid → Spells n high mid (at + m) new → low + 256 ^ m * high ≡ w → Spells (m + n) w old at new
-  spells-more l h e =
-      record {
-        number =
-            word_more m n new at
-            ∙ ap₂ (λ (x y : ℕ). x + 256 ^ m * y) (word_same m new mid at (λ j from to. h.before j to) ∙ l.number) h.number
-            ∙ e;
-        octets =
-            λ j from to.
-            ⊎_elim (λ below. rw (h.before j below) (l.octets j from below)) (λ past. h.octets j past (omega arith))
-            (below_or_not j (at + m));
-        before = λ j below. h.before j (omega arith) ∙ l.before j below;
-        past = λ j past. h.past j (omega arith) ∙ l.past j (omega arith);
-        long = h.long ∙ l.long;
-      }
-
-module _ {s : List ℕ} {at low high : ℕ} where
-  pub reads_two : Reads 1 s at low → Reads 1 s (at + 1) high → Reads 2 s at (high * 256 + low)
-  reads_two l h = reads_more 1 1 l h (omega (arith, l.below, h.below))
-
-  pub reads-four : Reads 2 s at low → Reads 2 s (at + 2) high → Reads 4 s at (high * 65536 + low)
-  reads-four l h = reads_more 2 2 l h (omega (arith, l.below, h.below))
-
-  pub reads-eight : Reads 4 s at low → Reads 4 s (at + 4) high → Reads 8 s at (high * 4294967296 + low)
-  reads-eight l h = reads_more 4 4 l h (omega (arith, l.below, h.below))
-
-module _ {old mid new : List ℕ} {at : ℕ} (w : ℕ) where
-  pub spells-two : Spells 1 (w % 256) old at mid → Spells 1 (w / 256) mid (at + 1) new → Spells 2 w old at new
-  spells-two l h = spells-more 1 1 l h (omega arith)
-
-  pub spells-four : Spells 2 (w % 65536) old at mid → Spells 2 (w / 65536) mid (at + 2) new → Spells 4 w old at new
-  spells-four l h = spells-more 2 2 l h (omega arith)
-
-  pub spells-eight : Spells 4 (w % 4294967296) old at mid → Spells 4 (w / 4294967296) mid (at + 4) new → Spells 8 w old at new
-  spells-eight l h = spells-more 4 4 l h (omega arith)
 
 -- ---- what is added so far
 -- a word more

@@ -1,5 +1,5 @@
 -- The claims of this crate (rules 6.24, 6.25, 7.13 and 28.4), and the definitions that they use.
-use Rattle.std.specs.Prelude.{ℕ, ◌+◌, ◌≤◌, ◌<◌, ◌≡◌, ◌↔◌, List, [], ◌++◌, map, length, get_or, replicate}
+use Rattle.std.specs.Prelude.{Result, ℕ, ◌+◌, ◌≤◌, ◌<◌, ◌≡◌, ◌↔◌, List, [], ◌++◌, map, length, get_or, replicate}
 use Rattle.length.specs.Answers.{Answer, done}
 use Rattle.length.specs.Claims.{Octets}
 use Rattle.datagram.specs.Sizes.{packet_limit}
@@ -13,6 +13,7 @@ use Rattle.packet.specs.TableCases.{TableCases}
 use Rattle.packet.specs.declared.types.PacketKind.{PacketKind}
 use Rattle.packet.specs.declared.types.Ending.{Ending}
 use Rattle.packet.specs.declared.types.Ending.TheVariants.{Whole, Repaired}
+use Rattle.length.specs.declared.Refusal.{Refusal}
 use Rattle.packet.specs.declared.types.PacketRead.{PacketRead}
 
 -- some octets, read in this edition and with this ending, are a packet of this kind and value, with fields of these types, lengths and data
@@ -82,7 +83,7 @@ PlainAlike = (ending : Ending) (octets : List ℕ) (p : PacketAnswer)
 
 -- two outcomes that a promise allows are equal (rule 28.14)
 pub record OneOutcome : Type 0 where
-  pub read : {due : Answer PacketAnswer} {r q : PacketRead} → PacketTold due r → PacketTold due q → r ≡ q
+  pub read : {due : Answer PacketAnswer} {r q : Result PacketRead Refusal} → PacketTold due r → PacketTold due q → r ≡ q
 
 -- what is written reads back in every edition in which no two values share their bits; `sound98` and `sound02` say this of both editions
 pub record Claims : Type 0 where

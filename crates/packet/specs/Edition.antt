@@ -1,10 +1,8 @@
 -- What an edition of the ASN.1 decides: which values are assigned, how many bits hold them, and which field types carry data (rules 6.3,
 -- 6.7, 6.10 and 7.1 to 7.10). Both editions of T.38's Annex A are values of one record. Definitions only.
-use Rattle.std.specs.Prelude.{ℕ, ◌+◌, ◌^◌, ◌≤◌, ◌<◌, ◌≡◌, Bool, true, false, not, cond, ltb, eqb}
+use Rattle.std.specs.Prelude.{Option, Some, None, ℕ, ◌+◌, ◌^◌, ◌≤◌, ◌<◌, ◌≡◌, Bool, true, false, not, cond, ltb, eqb}
 use Rattle.length.specs.Refusals.{wrong_settings}
 use Rattle.length.specs.Answers.{Answer, refuse}
-use Rattle.packet.specs.declared.types.Choice.{Choice}
-use Rattle.packet.specs.declared.types.Choice.TheVariants as choice
 pub use Rattle.packet.specs.declared.types.Enumerated.{Enumerated}
 use Rattle.packet.specs.declared.types.PacketKind.{PacketKind}
 use Rattle.packet.specs.declared.types.PacketKind.TheVariants.{Indicator, Data}
@@ -95,13 +93,13 @@ abbrev pub edition_of : Named → Edition
 edition_of Old = edition98
 edition_of New = edition02
 
-abbrev pub choice_of : ℕ → Choice
-choice_of octet = cond (eqb octet 0) (choice.Edition Old) (cond (eqb octet 1) (choice.Edition New) choice.Neither)
+abbrev pub choice_of : ℕ → Option Named
+choice_of octet = cond (eqb octet 0) (Some Old) (cond (eqb octet 1) (Some New) None)
 
 -- another octet is 15, before all other refusals (rule 7.2)
-abbrev pub of_choice : {A : Type 0} → Choice → (Edition → Answer A) → Answer A
-of_choice (choice.Edition named) answer = answer (edition_of named)
-of_choice choice.Neither answer = refuse wrong_settings
+abbrev pub of_choice : {A : Type 0} → Option Named → (Edition → Answer A) → Answer A
+of_choice (Some named) answer = answer (edition_of named)
+of_choice None answer = refuse wrong_settings
 
 abbrev pub by_edition : {A : Type 0} → ℕ → (Edition → Answer A) → Answer A
 by_edition octet answer = of_choice (choice_of octet) answer

@@ -6,6 +6,7 @@ use Rattle.std.proofs.Math.Option.{Option}
 use Rattle.length.specs.Refusals.{outside_sizes, wrong_settings, not_assigned, wrong_data}
 use Rattle.length.specs.Answers.{Answer}
 use Rattle.length.specs.Tables.{when, unless}
+use Rattle.length.specs.declared.Reason.{Reason}
 use Rattle.format.specs.Spelling.{in_octets}
 use Rattle.datagram.specs.Sizes.{packet_limit}
 use Rattle.packet.specs.Edition.{Edition}
@@ -60,7 +61,7 @@ unfoldable pub in_sizes : List ℕ → ℕ → Bool
 in_sizes lengths size = every (λ n. leb n packet_limit) lengths && leb size packet_limit
 
 -- what the packet writer refuses, in order: 4 for over 16 types, 15, 12, 14, 4 for a length (rules 6.20 and 6.21); otherwise it writes
-abbrev pub packet_writer_rows : Edition → PacketKind → ℕ → List ℕ → List ℕ → List ℕ → List (Option ℕ)
+abbrev pub packet_writer_rows : Edition → PacketKind → ℕ → List ℕ → List ℕ → List ℕ → List (Option Reason)
 packet_writer_rows edition kind value types lengths octets =
     when (ltb fields_limit (length types)) outside_sizes
     ∷ when (not (one_each types lengths octets)) wrong_settings

@@ -3,4 +3,4 @@
 
 mod types;
 
-pub use types::{Choice, Ending, Enumerated, Field, Named, PacketKind, PacketRead, PacketReading};
+pub use types::{Ending, Enumerated, Field, Named, PacketKind, PacketRead};

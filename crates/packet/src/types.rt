@@ -3,8 +3,6 @@ ghost use Rattle.std.specs.Prelude.{◌≡◌};
 ghost use Rattle.packet.specs.Edition.{edition02};
 ghost use Rattle.packet.specs.Packet.{fields_least, fields_limit, types_limit};
 
-use length::Refusal;
-
 // A packet is an indicator or data (rule 6.1).
 #[derive(Drop)]
 #[derive(Clone, Copy)]
@@ -30,13 +28,6 @@ pub struct Enumerated {
 pub enum Named {
     Old,
     New,
-}
-
-// What an octet names: an edition, or none (rule 7.2).
-#[derive(Drop)]
-pub enum Choice {
-    Edition(Named),
-    Neither,
 }
 
 // How a packet came: received or spare, it ends at its last field (rule 6.11); repaired, it may go on with zeros (rule 6.12).
@@ -85,20 +76,12 @@ impl Field {
     }
 }
 
-// What reading a packet finds: its kind, its value and how many fields it has, or why it is refused.
-#[derive(Drop)]
-pub enum PacketReading {
-    Packet {
-        kind: PacketKind,
-        value: u8,
-        count: usize,
-    },
-    Refused(Refusal),
-}
-
-// The result of `packet_reader::read`: the first `count` places of `fields` are the packet's; all others are zero (rule 6.27).
+// A packet that was read: its kind, its value and its fields. The first `count` places of `fields` are the packet's; all others are zero
+// (rule 6.27). There is no heap, so the array has room for the most fields.
 #[derive(Drop)]
 pub struct PacketRead {
-    pub reading: PacketReading,
+    pub kind: PacketKind,
+    pub value: u8,
+    pub count: usize,
     pub fields: [Field; Field::LIMIT],
 }

@@ -1,8 +1,9 @@
 -- The loops that test or sum every element, one turn each: what is left decides. Assumes nothing.
+use Rattle.std.specs.List.{list_all}
 use Prim.Native.Nat.{ℕ, ◌+◌, ◌*◌, ◌/◌, ◌≤◌, ◌<◌}
 use mathlib.Core.Path.{◌≡◌, refl, sym, ap, ap₂, ◌∙◌}
 use mathlib.Core.Bool.{Bool, true, false, ◌&&◌}
-use mathlib.Core.List.{List, ◌∷◌}
+use mathlib.Core.List.{List, [], ◌∷◌}
 use lib.ListN.{length, get_or, drop, drop_of_length-le}
 use lib.Seq.{drop-cons}
 use lib.Dec.{eqb, leb}
@@ -19,6 +20,12 @@ pub drop-next : (s : List ℕ) (i : ℕ) → i < length s → drop i s ≡ get_o
 drop-next s i h = drop-cons s i 0 h ∙ ap (λ (n : ℕ). get_or s i 0 ∷ drop n s) (sym (add-one i))
 
 -- ---- a test of each
+-- the library's word for it
+pub all-every : (test : ℕ → Bool) (s : List ℕ) → list_all test s ≡ every test s
+unfolding every
+all-every test [] = refl
+all-every test (x ∷ rest) = ap (λ (b : Bool). test x && b) (all-every test rest)
+
 pub record EveryLeft (test : ℕ → Bool) (s : List ℕ) (i : ℕ) : Type 0 where
   pub so : every test s ≡ every test (drop i s)
 

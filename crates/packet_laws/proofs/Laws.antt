@@ -1,7 +1,7 @@
 -- The laws of a packet octet by octet that others use; each is proved in the file that it is passed on from. Assumes nothing.
 
 -- ---- loops over each element
-pub use Rattle.packet_laws.proofs.Every.{drop-next, EveryLeft, evers, Summing, sum-next, sums, Passing, passes}
+pub use Rattle.packet_laws.proofs.Every.{all-every, drop-next, EveryLeft, evers, Summing, sum-next, sums, Passing, passes}
 pub use Rattle.packet_laws.proofs.Rest.{rest, rest-is}
 -- ---- both editions
 pub use Rattle.packet_laws.proofs.Editions.{narrow}

@@ -1,8 +1,8 @@
 -- What the functions of `packet_writer` owe each other: what is measured, what has room, and what the buffer then holds. Definitions only.
-use Rattle.std.specs.Prelude.{ℕ, ◌+◌, ◌-◌, ◌*◌, ◌^◌, ◌<◌, ◌≤◌, ◌≡◌, Bool, true, List, length, leb}
+use Rattle.std.specs.Prelude.{ℕ, ◌+◌, ◌-◌, ◌*◌, ◌^◌, ◌<◌, ◌≤◌, ◌≡◌, Bool, true, List, length, leb, Result}
+use Rattle.length.specs.declared.Refusal.{Refusal}
 use Rattle.length.specs.Answers.{done, written_outcome, size_of}
 use Rattle.length.specs.Promise.{Put}
-use Rattle.length.specs.declared.Written.{Written}
 use Rattle.datagram.specs.Sizes.{packet_limit}
 use Rattle.packet.specs.Edition.{many, edition_of}
 use Rattle.packet.specs.Packet.{First, fields_limit, every}
@@ -63,7 +63,7 @@ pub record AllRight (named : Named) (kind : PacketKind) (types lengths : List �
 pub record PacketSized (named : Named) (kind : PacketKind) (value : ℕ) (types lengths : List ℕ) (r : ℕ) : Type 0 where
   pub so : r ≡ packet_size (edition_of named) kind value types lengths
 
-pub record Measured (named : Named) (kind : PacketKind) (value : ℕ) (types lengths octets : List ℕ) (r : Written) : Type 0 where
+pub record Measured (named : Named) (kind : PacketKind) (value : ℕ) (types lengths octets : List ℕ) (r : Result ℕ Refusal) : Type 0 where
   pub answer : written_outcome r ≡ size_of (packet_to_write (edition_of named) kind value types lengths octets)
 
 -- ---- writing: what has room

@@ -13,6 +13,7 @@ use Rattle.length.specs.Answers.{Answer, done, refused, refuse, LengthAnswer}
 use Rattle.length.specs.Answers as answers
 use Rattle.length.specs.Length.{length_at, within, allowed, length_within}
 use Rattle.length.specs.Claims.{Octets}
+use Rattle.length.specs.declared.Reason.{Reason}
 use Rattle.format.specs.Reading.{Finding, found, stopped, and_then, found_from, bit_at}
 use Rattle.format.specs.Reading as reading
 use Rattle.format.specs.Format.{two_front}
@@ -25,7 +26,7 @@ length_from q (done l) = found l.value (8 * l.size + q)
 length_from q (refused r) = stopped (further (q / 8) r)
 
 -- refused at the front of the octets from an octet on
-front : {A : Type 0} (at n : ℕ) → ◌≡◌ {A = Finding A} (stopped (refusal_at at n)) (stopped (further at (refusal n)))
+front : {A : Type 0} (at : ℕ) (n : Reason) → ◌≡◌ {A = Finding A} (stopped (refusal_at at n)) (stopped (further at (refusal n)))
 front at n = let here : at ≡ at + 0 = omega arith in ap (λ (k : ℕ). stopped (refusal_at k n)) here
 
 module _ (s : List ℕ) (q : ℕ) (octets : Octets s) (on : q % 8 ≡ 0) where

@@ -1,5 +1,6 @@
 -- The loop over the fields, one turn: the fields that are left, after those that were taken, are all of them. And one law for each
 -- answer of the functions that take them. Assumes nothing.
+use Rattle.std.proofs.Common.{Result, Ok, Err}
 use Prim.Native.Nat.{ℕ, suc, ◌+◌, ◌-◌, ◌≤◌, ◌<◌}
 use mathlib.Core.Path.{◌≡◌, refl, sym, ap, ap₂, ◌∙◌}
 use mathlib.Core.List.{List, [], ◌∷◌, ◌++◌, map, append_assoc, append-nil}
@@ -16,14 +17,9 @@ use Rattle.packet.specs.Promise.{padded_fields}
 use Rattle.packet.specs.declared.types.Field.{Field}
 use Rattle.packet.specs.declared.types.Named.{Named}
 use Rattle.packet_reader.proofs.Laws.{set-padded}
-use Rattle.packet_pencil.specs.Bits.{found_as}
+use Rattle.packet_pencil.specs.Bits.{found_as, finding}
 use Rattle.packet_pencil.specs.Items.{CountTaken}
-use Rattle.packet_pencil.specs.Fields.{FieldTaken, field_found, one_found, fields_found, fields_taken, SequenceTaken, FieldsTaken}
-use Rattle.packet_pencil.specs.declared.bits.Number.{Number}
-use Rattle.packet_pencil.specs.declared.bits.Number.TheVariants as number
-use Rattle.packet_pencil.specs.declared.fields.One.{One}
-use Rattle.packet_pencil.specs.declared.fields.One.TheVariants as one
-use Rattle.packet_pencil.specs.declared.fields.All.TheVariants as all
+use Rattle.packet_pencil.specs.Fields.{FieldTaken, field_found, fields_found, fields_taken, SequenceTaken, FieldsTaken}
 use Rattle.packet_pencil.specs.declared.fields.Fields.{Fields}
 
 -- ---- fields before those that follow
@@ -87,7 +83,7 @@ module _ {named : Named} {s : List ℕ} {from : Place} {count : ℕ} where
       }
 
   module _ {fields : List Field} {p k : ℕ} (g : Going named s from count fields p k) where
-    pub going_done : count ≤ k → SequenceTaken named count s from (record { all = all.Found count p; fields = fields })
+    pub going_done : count ≤ k → SequenceTaken named count s from (Ok (record { count = count; fields = fields; next = p }))
     unfolding reading.sequence_of
     going_done none =
         let left : count - k ≡ 0 = omega arith in
@@ -97,25 +93,23 @@ module _ {named : Named} {s : List ℕ} {from : Place} {count : ℕ} where
         ∙ ap (λ (l : List Field). found l p) (append-nil g.pre) in
         record { answer = λ i. rw (is i, many, ← g.here) }
 
-    module _ {r : One} (more : k < count) (told : FieldTaken named s p r) where
+    module _ {r : Result (Field × ℕ) Refusal} (more : k < count) (told : FieldTaken named s p r) where
       -- the field that is taken now, and those after it
       next_of : (i : ℕ) → fields_found named count s i from ≡ after g.pre (fields_found named (suc (count - (k + 1))) s i p)
       next_of i =
           let left : count - k ≡ suc (count - (k + 1)) = omega arith in
           g.whole i ∙ ap (λ (n : ℕ). after g.pre (fields_found named n s i p)) left
 
-      pub going-refused : {x : Refusal} {none : Fields} → r ≡ one.Refused x → none ≡ fields_taken (stopped x)
-          → SequenceTaken named count s from none
-      going-refused {x} is refused =
+      pub going-refused : {x : Refusal} → r ≡ Err x → SequenceTaken named count s from (Err x)
+      going-refused {x} is =
           record {
             answer =
                 λ i.
-                refused
-                ∙ ap fields_taken
-                (sym (next_of i ∙ ap (after g.pre) (fields-stop named (count - (k + 1)) s i p x (told.answer i ∙ ap one_found is))));
+                ap fields_taken
+                (sym (next_of i ∙ ap (after g.pre) (fields-stop named (count - (k + 1)) s i p x (told.answer i ∙ ap finding is))));
           }
 
-      pub going-turn : {f : Field} {q : ℕ} → count ≤ fields_limit → r ≡ one.Found f q → Going named s from count (set fields k f) q (k + 1)
+      pub going-turn : {f : Field} {q : ℕ} → count ≤ fields_limit → r ≡ Ok (f, q) → Going named s from count (set fields k f) q (k + 1)
       going-turn {f} {q} limit is =
           record {
             few = omega arith;
@@ -125,7 +119,7 @@ module _ {named : Named} {s : List ℕ} {from : Place} {count : ℕ} where
             whole =
                 λ i.
                 next_of i
-                ∙ ap (after g.pre) (fields-step named (count - (k + 1)) s i p f q (told.answer i ∙ ap one_found is))
+                ∙ ap (after g.pre) (fields-step named (count - (k + 1)) s i p f q (told.answer i ∙ ap finding is))
                 ∙ after-after g.pre (f ∷ []) (fields_found named (count - (k + 1)) s i q);
           }
 
@@ -139,20 +133,20 @@ behind-count : (n : ℕ) (x : Finding (List Content))
 behind-count n (found l z) = refl
 behind-count n (stopped r) = refl
 
-module _ {named : Named} {s : List ℕ} {p : Place} {n : Number} (told : CountTaken s p n) where
-  pub fields-refused : {x : Refusal} {none : Fields} → n ≡ number.Refused x → none ≡ fields_taken (stopped x) → FieldsTaken named s p none
+module _ {named : Named} {s : List ℕ} {p : Place} {n : Result (ℕ × ℕ) Refusal} (told : CountTaken s p n) where
+  pub fields-refused : {x : Refusal} → n ≡ Err x → FieldsTaken named s p (Err x)
   unfolding description.data_field
-  fields-refused is refused = record { answer = λ i. rw (told.answer i, is) refused }
+  fields-refused is = record { answer = λ i. rw (told.answer i, is) }
 
-  module _ {k q : ℕ} (is : n ≡ number.Found k q) where
-    pub fields_read : {r : Fields} → SequenceTaken named k s q r → FieldsTaken named s p r
+  module _ {k q : ℕ} (is : n ≡ Ok (k, q)) where
+    pub fields_read : {r : Result Fields Refusal} → SequenceTaken named k s q r → FieldsTaken named s p r
     unfolding description.data_field
     fields_read all =
         let is : (i : ℕ) → found_as (map field_of) ((description.data_field (edition_of named)).read s i p) ≡ fields_found named k s i q
         = λ i. rw (told.answer i, is) (behind-count k (reading.sequence_of k (description.field (edition_of named)).read s i q)) in
         record { answer = λ i. (all).answer i ∙ ap fields_taken (sym (is i)) }
 
-pub fields-few : {s : List ℕ} {p : Place} {n : Number} {k q : ℕ} → CountTaken s p n → n ≡ number.Found k q → k ≤ fields_limit
+pub fields-few : {s : List ℕ} {p : Place} {n : Result (ℕ × ℕ) Refusal} {k q : ℕ} → CountTaken s p n → n ≡ Ok (k, q) → k ≤ fields_limit
 fields-few {k = k} told is = let low : k < 1 + fields_limit = rw is at told.small in omega arith
 
 pub ruleset counted = (fields-refused, fields-few, fields_read)

@@ -1,12 +1,13 @@
 -- One law for each answer of the functions that take the data field, if there is one, and the whole packet, in the words of the code.
 -- Assumes nothing.
+use Rattle.std.proofs.Common.{Result, Ok, Err}
 use Prim.Native.Nat.{ℕ, ◌/◌, ◌≤◌, ◌<◌}
 use mathlib.Core.Path.{◌≡◌, refl, sym, ap, ap₂, ◌∙◌}
-use mathlib.Core.Bool.{Bool, true, false, cond}
+use mathlib.Core.Bool.{Bool, true, false, not, cond}
 use mathlib.Core.List.{List, [], map}
 use lib.ListN.{length, drop}
 use native.Mathlib.Omega.{arith}
-use borrow.Author.Tests.{lt-ltb, le-ltb}
+use borrow.Author.Tests.{lt-ltb, le-ltb, not-true, not-false}
 use Rattle.length.specs.Refusals.{outside_sizes, left_over}
 use Rattle.length.specs.Answers.{Answer, done, refused}
 use Rattle.length.specs.Promise.{RefusalMade, RefusalPlaced}
@@ -25,26 +26,21 @@ use Rattle.packet.specs.declared.types.Ending.{Ending}
 use Rattle.packet.specs.declared.types.Field.{Field}
 use Rattle.packet.specs.declared.types.Named.{Named}
 use Rattle.packet.specs.declared.types.PacketRead.{PacketRead}
-use Rattle.packet.specs.declared.types.PacketReading.TheVariants as reading
 use Rattle.packet_reader.specs.Items.{NamedTold}
 use Rattle.packet_pencil.specs.Bits.{EdgeTaken, found_as}
 use Rattle.packet_pencil.specs.Items.{OctetTaken}
 use Rattle.packet_pencil.specs.Fields.{fields_taken, FieldsTaken}
 use Rattle.packet_pencil.specs.Packet.{StartTaken, AfterTaken}
-use Rattle.packet_pencil.specs.declared.bits.Edge.{Edge}
-use Rattle.packet_pencil.specs.declared.bits.Edge.TheVariants as edge
-use Rattle.packet_pencil.specs.declared.fields.All.TheVariants as all
 use Rattle.packet_pencil.specs.declared.fields.Fields.{Fields}
 use Rattle.packet_pencil.specs.declared.whole.First as declared
-use Rattle.packet_pencil.specs.declared.whole.First.TheVariants as first
 
 -- ---- the data field, if there is one
 module _ {named : Named} {s : List ℕ} {p : Place} {b : Bool} where
-  pub after-data : {r : Fields} → b ≡ true → FieldsTaken named s p r → AfterTaken named b s p r
+  pub after-data : {r : Result Fields Refusal} → b ≡ true → FieldsTaken named s p r → AfterTaken named b s p r
   after-data is told = record { answer = λ i. rw is (told.answer i) }
 
   pub after_none : {none : List Field} → b ≡ false → none ≡ padded_fields []
-      → AfterTaken named b s p (record { all = all.Found 0 p; fields = none })
+      → AfterTaken named b s p (Ok (record { count = 0; fields = none; next = p }))
   after_none is none = record { answer = λ i. rw (is, none) }
 
 pub ruleset optionals = (after-data, after_none)
@@ -61,37 +57,30 @@ record Contents (x : Finding (List Content)) (n : ℕ) (p : Place) (fields : Lis
   many : n ≡ length (map field_of contents)
   here : fields ≡ padded_fields (map field_of contents)
 
-module _ {named : Named} {b : Bool} {s : List ℕ} {p : Place} {r : Fields} (told : AfterTaken named b s p r) where
-  contents-of : {n q : ℕ} → r.all ≡ all.Found n q → Contents (after named b s p) n q r.fields
-  contents-of {n} {q} is = by (after named b s p) refl (told.answer 0) where
-    by : (x : Finding (List Content)) → after named b s p ≡ x → r ≡ fields_taken (found_as (map field_of) x)
-        → Contents (after named b s p) n q r.fields
+module _ {named : Named} {b : Bool} {s : List ℕ} {p : Place} {r : Result Fields Refusal} (told : AfterTaken named b s p r) where
+  contents-of : {x : Fields} → r ≡ Ok x → Contents (after named b s p) x.count x.next x.fields
+  contents-of {x} is = by (after named b s p) refl (told.answer 0) where
+    by : (y : Finding (List Content)) → after named b s p ≡ y → r ≡ fields_taken (found_as (map field_of) y)
+        → Contents (after named b s p) x.count x.next x.fields
     by (found contents z) e whole =
-        let same : all.Found (length (map field_of contents)) z ≡ all.Found n q = sym (ap (λ (y : Fields). y.all) whole) ∙ is in
-        let at : z ≡ q = cc in
-        let many : length (map field_of contents) ≡ n = cc in
+        let same : x ≡ record {
+          count = length (map field_of contents);
+          fields = padded_fields (map field_of contents);
+          next = z;
+        } = cc in
         record {
           contents = contents;
-          was = e ∙ ap (λ (k : ℕ). found contents k) at;
-          many = sym many;
-          here = ap (λ (y : Fields). y.fields) whole;
+          was = e ∙ ap (λ (k : ℕ). found contents k) (sym (ap (λ (y : Fields). y.next) same));
+          many = ap (λ (y : Fields). y.count) same;
+          here = ap (λ (y : Fields). y.fields) same;
         }
-    by (stopped x) e whole =
-        let same : all.Refused x ≡ all.Found n q = sym (ap (λ (y : Fields). y.all) whole) ∙ is in
-        let z : ◌≡◌ {A = ℕ} 0 1 = cc in
-        absurd (omega arith)
+    by (stopped why) e whole = let z : ◌≡◌ {A = ℕ} 0 1 = cc in absurd (omega arith)
 
-  after-stopped : {x : Refusal} → r.all ≡ all.Refused x → after named b s p ≡ stopped x
+  after-stopped : {x : Refusal} → r ≡ Err x → after named b s p ≡ stopped x
   after-stopped {x} is = by (after named b s p) refl (told.answer 0) where
     by : (y : Finding (List Content)) → after named b s p ≡ y → r ≡ fields_taken (found_as (map field_of) y) → after named b s p ≡ stopped x
-    by (found contents z) e whole =
-        let same : all.Found (length (map field_of contents)) z ≡ all.Refused x = sym (ap (λ (y : Fields). y.all) whole) ∙ is in
-        let z : ◌≡◌ {A = ℕ} 0 1 = cc in
-        absurd (omega arith)
-    by (stopped y) e whole =
-        let same : all.Refused y ≡ all.Refused x = sym (ap (λ (y : Fields). y.all) whole) ∙ is in
-        let why : y ≡ x = cc in
-        e ∙ ap (λ (k : Refusal). stopped k) why
+    by (found contents z) e whole = let z : ◌≡◌ {A = ℕ} 0 1 = cc in absurd (omega arith)
+    by (stopped y) e whole = let why : y ≡ x = cc in e ∙ ap (λ (k : Refusal). stopped k) why
 
 -- what is left from an octet edge on is what is left from its octet on
 follows : (e : Ending) {s : List ℕ} {p : Place} {from : ℕ} {t : Bool} → OctetTaken s p from → t ≡ may_follow e (rest from s)
@@ -99,51 +88,53 @@ follows : (e : Ending) {s : List ℕ} {p : Place} {from : ℕ} {t : Bool} → Oc
 follows e {s} {p} {from} octet test = ap (may_follow e) (sym octet.rest ∙ sym (rest-is from s)) ∙ sym test
 
 module _ {named : Named} {e : Ending} {s : List ℕ} where
-  told_of : {r : PacketRead} (x : Answer PacketAnswer) → read_packet (edition_of named) e s ≡ x → r ≡ packet_read x → NamedTold named e s r
+  told_of : {r : Result PacketRead Refusal} (x : Answer PacketAnswer) → read_packet (edition_of named) e s ≡ x → r ≡ packet_read x
+      → NamedTold named e s r
   told_of x is image =
       record { told = record { answer = ap packet_outcome image ∙ read-outcome x ∙ sym is; whole = image ∙ ap packet_read (sym is) } }
 
-  pub packet-over : {x : Refusal} {r : PacketRead} → packet_limit < length s → RefusalMade outside_sizes x → r ≡ packet_read (refused x)
-      → NamedTold named e s r
+  pub packet-over : {x : Refusal} → packet_limit < length s → RefusalMade outside_sizes x → NamedTold named e s (Err x)
   unfolding read_packet
-  packet-over {x} over made = told_of (refused x) (rw (lt-ltb packet_limit (length s) over, made.answer))
+  packet-over {x} over made = told_of (refused x) (rw (lt-ltb packet_limit (length s) over, made.answer)) refl
 
-  module _ {f : declared.First} (fits : length s ≤ packet_limit) (told : StartTaken named s 0 f) where
-    pub packet-start : {x : Refusal} {r : PacketRead} → f ≡ first.Refused x → r ≡ packet_read (refused x) → NamedTold named e s r
+  module _ {f : Result declared.First Refusal} (fits : length s ≤ packet_limit) (told : StartTaken named s 0 f) where
+    pub packet-start : {x : Refusal} → f ≡ Err x → NamedTold named e s (Err x)
     unfolding read_packet description.whole_packet description.packet
-    packet-start {x} is = told_of (refused x) (rw (le-ltb packet_limit (length s) fits, told.answer 0, is))
+    packet-start {x} is = told_of (refused x) (rw (le-ltb packet_limit (length s) fits, told.answer 0, is)) refl
 
-    module _ {k : PacketKind} {v q : ℕ} {b : Bool} {g : Fields} (is : f ≡ first.Found k v b q) (fields : AfterTaken named b s q g) where
-      pub packet-fields : {x : Refusal} {r : PacketRead} → g.all ≡ all.Refused x → r ≡ packet_read (refused x) → NamedTold named e s r
+    module _ {y : declared.First} {g : Result Fields Refusal} (is : f ≡ Ok y) (fields : AfterTaken named y.present s y.next g) where
+      pub packet-fields : {x : Refusal} → g ≡ Err x → NamedTold named e s (Err x)
       unfolding read_packet description.whole_packet description.packet
       packet-fields {x} why =
-          told_of (refused x) (rw (le-ltb packet_limit (length s) fits, told.answer 0, is, after-stopped fields why))
+          told_of (refused x) (rw (le-ltb packet_limit (length s) fits, told.answer 0, is, after-stopped fields why)) refl
 
-      module _ {n m : ℕ} {d : Edge} (read : g.all ≡ all.Found n m) (aligned : EdgeTaken s m d) where
-        pub packet-edge : {x : Refusal} {r : PacketRead} → d ≡ edge.Refused x → r ≡ packet_read (refused x) → NamedTold named e s r
+      module _ {a : Fields} {d : Result ℕ Refusal} (read : g ≡ Ok a) (aligned : EdgeTaken s a.next d) where
+        pub packet-edge : {x : Refusal} → d ≡ Err x → NamedTold named e s (Err x)
         unfolding read_packet description.whole_packet description.packet
         packet-edge {x} why =
             let c = contents-of fields read in
             told_of (refused x)
             (rw (le-ltb packet_limit (length s) fits, told.answer 0, is, c.was, aligned.answer 0, why))
+            refl
 
-        module _ {z from : ℕ} {t : Bool} (on : d ≡ edge.Found z) (octet : OctetTaken s z from)
-            (test : t ≡ may_follow e (rest from s)) where
-          pub packet-left : {x : Refusal} {r : PacketRead} → t ≡ false → RefusalPlaced left_over (z / 8) x → r ≡ packet_read (refused x)
-              → NamedTold named e s r
+        module _ {z from : ℕ} {t : Bool} (on : d ≡ Ok z) (octet : OctetTaken s z from) (test : t ≡ may_follow e (rest from s)) where
+          pub packet-left : {x : Refusal} → not t ≡ true → RefusalPlaced left_over (z / 8) x → NamedTold named e s (Err x)
           unfolding read_packet description.whole_packet description.packet
           packet-left {x} not_so made =
               let c = contents-of fields read in
-              let may = follows e octet test ∙ not_so in
+              let may = follows e octet test ∙ not-true t not_so in
               told_of (refused x)
               (rw (le-ltb packet_limit (length s) fits, told.answer 0, is, c.was, aligned.answer 0, on, may, made.answer))
+              refl
 
-          pub packet-read : t ≡ true → NamedTold named e s (record { reading = reading.Packet k v n; fields = g.fields })
+          pub packet-is : not t ≡ false
+              → NamedTold named e s (Ok (record { kind = y.kind; value = y.value; count = a.count; fields = a.fields }))
           unfolding read_packet description.whole_packet description.packet
-          packet-read so =
+          packet-is so =
               let c = contents-of fields read in
-              told_of (done (record { kind = k; value = v; fields = map field_of c.contents }))
-              (rw (le-ltb packet_limit (length s) fits, told.answer 0, is, c.was, aligned.answer 0, on, follows e octet test ∙ so))
-              (ap₂ (λ (j : ℕ) (l : List Field). record { reading = reading.Packet k v j; fields = l }) c.many c.here)
+              let may = follows e octet test ∙ not-false t so in
+              told_of (done (record { kind = y.kind; value = y.value; fields = map field_of c.contents }))
+              (rw (le-ltb packet_limit (length s) fits, told.answer 0, is, c.was, aligned.answer 0, on, may))
+              (ap₂ (λ (j : ℕ) (l : List Field). Ok (record { kind = y.kind; value = y.value; count = j; fields = l })) c.many c.here)
 
-pub ruleset packets = (packet-over, packet-start, packet-fields, packet-edge, packet-left, packet-read)
+pub ruleset packets = (packet-over, packet-start, packet-fields, packet-edge, packet-left, packet-is)

@@ -1,4 +1,5 @@
 -- One law for each answer of the functions that take the start of a packet, in the words of the code. Assumes nothing.
+use Rattle.std.proofs.Common.{Result, Ok, Err}
 use Prim.Native.Nat.{ℕ, ◌/◌, ◌%◌}
 use mathlib.Core.Path.{◌≡◌, refl, sym, ◌∙◌}
 use mathlib.Core.Bool.{Bool, true, false}
@@ -17,33 +18,26 @@ use Rattle.packet.specs.declared.types.Named.{Named}
 use Rattle.packet_pencil.specs.Bits.{FlagTaken, EdgeTaken, found_as}
 use Rattle.packet_pencil.specs.Items.{ValueTaken}
 use Rattle.packet_pencil.specs.Packet.{ChosenTaken, TypeTaken, StartTaken, first_with}
-use Rattle.packet_pencil.specs.declared.bits.Number.{Number}
-use Rattle.packet_pencil.specs.declared.bits.Number.TheVariants as number
-use Rattle.packet_pencil.specs.declared.bits.Marked.{Marked}
-use Rattle.packet_pencil.specs.declared.bits.Marked.TheVariants as flag
-use Rattle.packet_pencil.specs.declared.bits.Edge.{Edge}
-use Rattle.packet_pencil.specs.declared.bits.Edge.TheVariants as edge
 use Rattle.packet_pencil.specs.declared.whole.First as declared
-use Rattle.packet_pencil.specs.declared.whole.First.TheVariants as first
 use Rattle.packet_pencil.proofs.ReadValues.{narrow-values, value-fits}
 
 -- ---- the value of the kind that was chosen
-module _ {named : Named} {s : List ℕ} {i : ℕ} {p : Place} {present is_data : Bool} {n : Number} where
+module _ {named : Named} {s : List ℕ} {i : ℕ} {p : Place} {present is_data : Bool} {n : Result (ℕ × ℕ) Refusal} where
   module _ (is : is_data ≡ true) (told : ValueTaken (edition_of named).kinds s i p n) where
-    pub data-refused : {r : Refusal} → n ≡ number.Refused r → ChosenTaken named present is_data s i p (first.Refused r)
+    pub data-refused : {r : Refusal} → n ≡ Err r → ChosenTaken named present is_data s i p (Err r)
     data-refused why = record { answer = rw (is, told.answer, why) }
 
-    pub data-chosen : {v q : ℕ} → n ≡ number.Found v q → ChosenTaken named present is_data s i p (first.Found Data (v % 256) present q)
+    pub data-chosen : {v q : ℕ} → n ≡ Ok (v, q) → ChosenTaken named present is_data s i p (Ok (record { kind = Data; value = v % 256; present = present; next = q }))
     data-chosen {v} value =
         let same = value-fits (narrow-values named Data) told value in
         record { answer = rw (is, told.answer, value, same) }
 
   module _ (is : is_data ≡ false) (told : ValueTaken (edition_of named).indicators s i p n) where
-    pub indicator-refused : {r : Refusal} → n ≡ number.Refused r → ChosenTaken named present is_data s i p (first.Refused r)
+    pub indicator-refused : {r : Refusal} → n ≡ Err r → ChosenTaken named present is_data s i p (Err r)
     indicator-refused why = record { answer = rw (is, told.answer, why) }
 
-    pub indicator-chosen : {v q : ℕ} → n ≡ number.Found v q
-        → ChosenTaken named present is_data s i p (first.Found Indicator (v % 256) present q)
+    pub indicator-chosen : {v q : ℕ} → n ≡ Ok (v, q)
+        → ChosenTaken named present is_data s i p (Ok (record { kind = Indicator; value = v % 256; present = present; next = q }))
     indicator-chosen {v} value =
         let same = value-fits (narrow-values named Indicator) told value in
         record { answer = rw (is, told.answer, value, same) }
@@ -59,17 +53,17 @@ behind-flags : (b c : Bool) (x : Finding ℕ)
 behind-flags b c (found v z) = refl
 behind-flags b c (stopped r) = refl
 
-module _ {named : Named} {s : List ℕ} {i : ℕ} {p : Place} {m : Marked} (told : FlagTaken s i p m) where
-  pub type-flag : {r : Refusal} → m ≡ flag.Refused r → TypeTaken named s i p (first.Refused r)
+module _ {named : Named} {s : List ℕ} {i : ℕ} {p : Place} {m : Result (Bool × ℕ) Refusal} (told : FlagTaken s i p m) where
+  pub type-flag : {r : Refusal} → m ≡ Err r → TypeTaken named s i p (Err r)
   unfolding description.type_of_msg
   type-flag is = record { answer = rw (told.answer, is) }
 
-  module _ {b : Bool} {q : ℕ} {n : Marked} (is : m ≡ flag.Found b q) (choice : FlagTaken s i q n) where
-    pub type-choice : {r : Refusal} → n ≡ flag.Refused r → TypeTaken named s i p (first.Refused r)
+  module _ {b : Bool} {q : ℕ} {n : Result (Bool × ℕ) Refusal} (is : m ≡ Ok (b, q)) (choice : FlagTaken s i q n) where
+    pub type-choice : {r : Refusal} → n ≡ Err r → TypeTaken named s i p (Err r)
     unfolding description.type_of_msg
     type-choice why = record { answer = rw (told.answer, is, choice.answer, why) }
 
-    pub type-chosen : {c : Bool} {z : ℕ} {r : declared.First} → n ≡ flag.Found c z → ChosenTaken named b c s i z r → TypeTaken named s i p r
+    pub type-chosen : {c : Bool} {z : ℕ} {r : Result declared.First Refusal} → n ≡ Ok (c, z) → ChosenTaken named b c s i z r → TypeTaken named s i p r
     unfolding description.type_of_msg
     type-chosen {c} {z} chose value =
         record {
@@ -81,23 +75,23 @@ module _ {named : Named} {s : List ℕ} {i : ℕ} {p : Place} {m : Marked} (told
 pub ruleset types = (type-flag, type-choice, type-chosen)
 
 -- ---- the start
-module _ {named : Named} {s : List ℕ} {p : Place} {f : declared.First} (told : TypeTaken named s (p / 8) p f) where
-  pub start-type : {r : Refusal} → f ≡ first.Refused r → StartTaken named s p (first.Refused r)
+module _ {named : Named} {s : List ℕ} {p : Place} {f : Result declared.First Refusal} (told : TypeTaken named s (p / 8) p f) where
+  pub start-type : {r : Refusal} → f ≡ Err r → StartTaken named s p (Err r)
   unfolding description.start
   start-type is = record { answer = λ i. rw (told.answer, is) }
 
-  module _ {k : PacketKind} {v q : ℕ} {b : Bool} {e : Edge} (is : f ≡ first.Found k v b q) (aligned : EdgeTaken s q e) where
-    pub start-edge : {r : Refusal} → e ≡ edge.Refused r → StartTaken named s p (first.Refused r)
+  module _ {x : declared.First} {e : Result ℕ Refusal} (is : f ≡ Ok x) (aligned : EdgeTaken s x.next e) where
+    pub start-edge : {r : Refusal} → e ≡ Err r → StartTaken named s p (Err r)
     unfolding description.start
     start-edge why = record { answer = λ i. rw (told.answer, is, aligned.answer (p / 8), why) }
 
-    module _ {z : ℕ} {t : Bool} (on : e ≡ edge.Found z) (test : t ≡ right_fields k b) where
-      pub start-wrong : {r : Refusal} → t ≡ false → RefusalPlaced wrong_data (p / 8) r → StartTaken named s p (first.Refused r)
+    module _ {z : ℕ} {t : Bool} (on : e ≡ Ok z) (test : t ≡ right_fields x.kind x.present) where
+      pub start-wrong : {r : Refusal} → t ≡ false → RefusalPlaced wrong_data (p / 8) r → StartTaken named s p (Err r)
       unfolding description.start
       start-wrong wrong made =
           record { answer = λ i. rw (told.answer, is, aligned.answer (p / 8), on, sym test ∙ wrong, made.answer) }
 
-      pub start-found : t ≡ true → StartTaken named s p (first.Found k v b z)
+      pub start-found : t ≡ true → StartTaken named s p (Ok (record { kind = x.kind; value = x.value; present = x.present; next = z }))
       unfolding description.start
       start-found right = record { answer = λ i. rw (told.answer, is, aligned.answer (p / 8), on, sym test ∙ right) }
 

@@ -1,4 +1,5 @@
 -- One law for each answer of the functions that take a value of an ENUMERATED type, in the words of the code. Assumes nothing.
+use Rattle.std.proofs.Common.{Result, Ok, Err}
 use Prim.Native.Nat.{ℕ, ◌+◌, ◌%◌, ◌≤◌, ◌<◌}
 use mathlib.Core.Path.{◌≡◌, refl, ap, ◌∙◌}
 use mathlib.Core.Logic.{◌≢◌}
@@ -24,10 +25,6 @@ use Rattle.packet.specs.declared.types.PacketKind.{PacketKind}
 use Rattle.packet.specs.declared.types.Named.{Named}
 use Rattle.packet_pencil.specs.Bits.{found_as, BitsTaken, FlagTaken}
 use Rattle.packet_pencil.specs.Items.{six, RootTaken, AddedTaken, AdditionTaken, ValueTaken}
-use Rattle.packet_pencil.specs.declared.bits.Number.{Number}
-use Rattle.packet_pencil.specs.declared.bits.Number.TheVariants as number
-use Rattle.packet_pencil.specs.declared.bits.Marked.{Marked}
-use Rattle.packet_pencil.specs.declared.bits.Marked.TheVariants as flag
 
 -- ---- an octet holds the values of both editions
 pub narrow-values : (named : Named) (kind : PacketKind) → Narrow (edition.values (edition_of named) kind)
@@ -38,30 +35,30 @@ narrow-types named = (narrow named).of_types
 
 module _ {s : List ℕ} {i : ℕ} {p : Place} {e : Enumerated} where
   -- ---- before the extension mark
-  module _ {n : Number} (bits : BitsTaken e.width s i p n) where
-    pub root-refused : {r : Refusal} → n ≡ number.Refused r → RootTaken e s i p (number.Refused r)
+  module _ {n : Result (ℕ × ℕ) Refusal} (bits : BitsTaken e.width s i p n) where
+    pub root-refused : {r : Refusal} → n ≡ Err r → RootTaken e s i p (Err r)
     unfolding description.root
     root-refused is = record { answer = rw (bits.answer, is); small = tt }
 
-    module _ {v q : ℕ} (is : n ≡ number.Found v q) where
-      pub root-found : v < e.assigned → RootTaken e s i p (number.Found v q)
+    module _ {v q : ℕ} (is : n ≡ Ok (v, q)) where
+      pub root-found : v < e.assigned → RootTaken e s i p (Ok (v, q))
       unfolding description.root
       root-found low = record { answer = rw (bits.answer, is, lt-ltb v e.assigned low); small = omega arith }
 
-      pub root-not : {r : Refusal} → e.assigned ≤ v → RefusalPlaced not_assigned i r → RootTaken e s i p (number.Refused r)
+      pub root-not : {r : Refusal} → e.assigned ≤ v → RefusalPlaced not_assigned i r → RootTaken e s i p (Err r)
       unfolding description.root
       root-not high made = record { answer = rw (bits.answer, is, le-ltb v e.assigned high, made.answer); small = tt }
 
   -- ---- which of the added values
-  module _ {n : Number} (bits : BitsTaken added_width s i p n) where
-    pub added-refused : {r : Refusal} → n ≡ number.Refused r → AddedTaken e s i p (number.Refused r)
+  module _ {n : Result (ℕ × ℕ) Refusal} (bits : BitsTaken added_width s i p n) where
+    pub added-refused : {r : Refusal} → n ≡ Err r → AddedTaken e s i p (Err r)
     added-refused is = record { answer = rw (bits.answer, is); small = tt }
 
-    module _ {v q : ℕ} (is : n ≡ number.Found v q) where
-      pub added-found : v < e.added → AddedTaken e s i p (number.Found (e.assigned + v) q)
+    module _ {v q : ℕ} (is : n ≡ Ok (v, q)) where
+      pub added-found : v < e.added → AddedTaken e s i p (Ok ((e.assigned + v), q))
       added-found low = record { answer = rw (bits.answer, is, lt-ltb v e.added low); small = omega arith }
 
-      pub added-not : {r : Refusal} → e.added ≤ v → RefusalPlaced not_assigned i r → AddedTaken e s i p (number.Refused r)
+      pub added-not : {r : Refusal} → e.added ≤ v → RefusalPlaced not_assigned i r → AddedTaken e s i p (Err r)
       added-not high made = record { answer = rw (bits.answer, is, le-ltb v e.added high, made.answer); small = tt }
 
 -- ---- after the extension mark
@@ -74,22 +71,22 @@ behind-zero n (found v z) = refl
 behind-zero n (stopped r) = refl
 
 module _ {s : List ℕ} {i : ℕ} {p : Place} {e : Enumerated} where
-  pub addition-none : {r : Refusal} → e.added ≡ 0 → RefusalPlaced not_assigned i r → AdditionTaken e s i p (number.Refused r)
+  pub addition-none : {r : Refusal} → e.added ≡ 0 → RefusalPlaced not_assigned i r → AdditionTaken e s i p (Err r)
   unfolding description.addition
   addition-none none made = record { answer = rw (le-ltb 0 e.added (omega arith), made.answer); small = tt }
 
-  module _ {m : Marked} (some : e.added ≢ 0) (told : FlagTaken s i p m) where
-    pub addition-flag : {r : Refusal} → m ≡ flag.Refused r → AdditionTaken e s i p (number.Refused r)
+  module _ {m : Result (Bool × ℕ) Refusal} (some : e.added ≢ 0) (told : FlagTaken s i p m) where
+    pub addition-flag : {r : Refusal} → m ≡ Err r → AdditionTaken e s i p (Err r)
     unfolding description.addition
     addition-flag is = record { answer = rw (lt-ltb 0 e.added (omega arith), told.answer, is); small = tt }
 
-    module _ {b : Bool} {q : ℕ} (is : m ≡ flag.Found b q) where
-      pub addition-large : {r : Refusal} → b ≡ true → RefusalPlaced not_assigned i r → AdditionTaken e s i p (number.Refused r)
+    module _ {b : Bool} {q : ℕ} (is : m ≡ Ok (b, q)) where
+      pub addition-large : {r : Refusal} → b ≡ true → RefusalPlaced not_assigned i r → AdditionTaken e s i p (Err r)
       unfolding description.addition
       addition-large set made =
           record { answer = rw (lt-ltb 0 e.added (omega arith), told.answer, is, set, made.answer); small = tt }
 
-      pub addition-counted : {r : Number} → b ≡ false → AddedTaken e s i q r → AdditionTaken e s i p r
+      pub addition-counted : {r : Result (ℕ × ℕ) Refusal} → b ≡ false → AddedTaken e s i q r → AdditionTaken e s i p r
       unfolding description.addition
       addition-counted clear which =
           record {
@@ -118,18 +115,18 @@ unfolding description.enumerated
 on-mark e s i p is = ap (λ (b : Bool). (on_mark b e).read s i p) is
 
 module _ {s : List ℕ} {i : ℕ} {p : Place} {e : Enumerated} where
-  pub value-root : {r : Number} → not e.extensible ≡ true → RootTaken e s i p r → ValueTaken e s i p r
+  pub value-root : {r : Result (ℕ × ℕ) Refusal} → not e.extensible ≡ true → RootTaken e s i p r → ValueTaken e s i p r
   value-root unmarked root =
       record {
         answer = on-mark e s i p (not-true e.extensible unmarked) ∙ behind-flag false ((description.root e).read s i p) ∙ root.answer;
         small = root.small;
       }
 
-  module _ {m : Marked} (marked : not e.extensible ≡ false) (told : FlagTaken s i p m) where
-    pub value-flag : {r : Refusal} → m ≡ flag.Refused r → ValueTaken e s i p (number.Refused r)
+  module _ {m : Result (Bool × ℕ) Refusal} (marked : not e.extensible ≡ false) (told : FlagTaken s i p m) where
+    pub value-flag : {r : Refusal} → m ≡ Err r → ValueTaken e s i p (Err r)
     value-flag is = record { answer = on-mark e s i p (not-false e.extensible marked) ∙ rw (told.answer, is); small = tt }
 
-    module _ {b : Bool} {q : ℕ} {r : Number} (is : m ≡ flag.Found b q) where
+    module _ {b : Bool} {q : ℕ} {r : Result (ℕ × ℕ) Refusal} (is : m ≡ Ok (b, q)) where
       pub value-extended : b ≡ true → AdditionTaken e s i q r → ValueTaken e s i p r
       value-extended set value =
           record {
@@ -155,7 +152,7 @@ pub ruleset additions = (added-refused, added-found, added-not, addition-none, a
 pub ruleset values = (value-root, value-flag, value-extended, value_before)
 
 -- ---- a value of an edition, which an octet holds
-pub value_of : {s : List ℕ} {i : ℕ} {p : Place} {r : Number} {e f : Enumerated} → e ≡ f → ValueTaken e s i p r → ValueTaken f s i p r
+pub value_of : {s : List ℕ} {i : ℕ} {p : Place} {r : Result (ℕ × ℕ) Refusal} {e f : Enumerated} → e ≡ f → ValueTaken e s i p r → ValueTaken f s i p r
 value_of is told = rw is at told
 
 pub narrow-of : {e f : Enumerated} → e ≡ f → Narrow f → Narrow e
@@ -163,7 +160,7 @@ narrow-of is bounds = rw is bounds
 
 pub ruleset editions = (value_of, narrow-of, narrow-values, narrow-types)
 
-pub value-fits : {s : List ℕ} {i : ℕ} {p : Place} {e : Enumerated} {n : Number} {v q : ℕ} → Narrow e → ValueTaken e s i p n
-    → n ≡ number.Found v q
+pub value-fits : {s : List ℕ} {i : ℕ} {p : Place} {e : Enumerated} {n : Result (ℕ × ℕ) Refusal} {v q : ℕ} → Narrow e → ValueTaken e s i p n
+    → n ≡ Ok (v, q)
     → v % 256 ≡ v
 value-fits {e = e} {v = v} bounds told is = let low : v < many e = rw is at told.small in omega (arith, bounds.values)

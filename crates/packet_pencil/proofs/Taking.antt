@@ -1,4 +1,5 @@
 -- The loop that takes bits, one turn: the bits that are left, after those that were taken, are the number. Assumes nothing.
+use Rattle.std.proofs.Common.{Result, Ok, Err}
 use Prim.Native.Nat.{ℕ, suc, ◌+◌, ◌-◌, ◌*◌, ◌^◌, ◌≤◌, ◌<◌}
 use mathlib.Core.Path.{◌≡◌, refl, sym, ap, ◌∙◌}
 use mathlib.Core.Bool.{Bool, true, false}
@@ -13,9 +14,7 @@ use Rattle.length.specs.declared.Refusal.{Refusal}
 use Rattle.format.specs.Reading.{Finding, found, stopped}
 use Rattle.format.specs.Reading as reading
 use Rattle.format.specs.Places.{Place}
-use Rattle.packet_pencil.specs.Bits.{number_found, BitTaken, BitsTaken}
-use Rattle.packet_pencil.specs.declared.bits.Number.{Number}
-use Rattle.packet_pencil.specs.declared.bits.Number.TheVariants as number
+use Rattle.packet_pencil.specs.Bits.{finding, BitTaken, BitsTaken}
 
 -- the number v before a number in m bits
 abbrev ahead : ℕ → ℕ → Finding ℕ → Finding ℕ
@@ -51,7 +50,7 @@ module _ {n : ℕ} {s : List ℕ} {i : ℕ} {p : Place} where
       }
 
   module _ {value next k : ℕ} where
-    pub taking-turn : {r : Number} {b q : ℕ} → Taking n s i p value next k → k < n → BitTaken s i next r → r ≡ number.Found b q → b < 2
+    pub taking-turn : {r : Result (ℕ × ℕ) Refusal} {b q : ℕ} → Taking n s i p value next k → k < n → BitTaken s i next r → r ≡ Ok (b, q) → b < 2
         → Taking n s i p (value * 2 + b) q (k + 1)
     unfolding reading.bits
     taking-turn {r} {b} {q} t more told is low =
@@ -72,8 +71,8 @@ module _ {n : ℕ} {s : List ℕ} {i : ℕ} {p : Place} where
           turned : (m : ℕ) → ahead value (suc m) (reading.bits (suc m) s i next) ≡ ahead (value * 2 + b) m (reading.bits m s i q)
           turned m = rw (told.answer, is) (rest m (reading.bits m s i q))
 
-    pub taking-refused : {r : Number} {x : Refusal} → Taking n s i p value next k → k < n → BitTaken s i next r → r ≡ number.Refused x
-        → BitsTaken n s i p (number.Refused x)
+    pub taking-refused : {r : Result (ℕ × ℕ) Refusal} {x : Refusal} → Taking n s i p value next k → k < n → BitTaken s i next r → r ≡ Err x
+        → BitsTaken n s i p (Err x)
     unfolding reading.bits
     taking-refused {r} {x} t more told is =
         let left : n - k ≡ suc (n - (k + 1)) = omega arith in
@@ -84,7 +83,7 @@ module _ {n : ℕ} {s : List ℕ} {i : ℕ} {p : Place} where
           one : (m : ℕ) → ahead value (suc m) (reading.bits (suc m) s i next) ≡ stopped x
           one m = rw (told.answer, is)
 
-    pub taking-end : Taking n s i p value next k → n ≤ k → BitsTaken n s i p (number.Found value next)
+    pub taking-end : Taking n s i p value next k → n ≤ k → BitsTaken n s i p (Ok (value, next))
     unfolding reading.bits
     taking-end t none =
         let left : n - k ≡ 0 = omega arith in
@@ -98,11 +97,11 @@ module _ {n : ℕ} {s : List ℕ} {i : ℕ} {p : Place} where
 
 -- ---- nothing passes what a number holds
 -- a bit is 0 or 1
-bit-small : {s : List ℕ} {i : ℕ} {p : Place} {r : Number} {b q : ℕ} → BitTaken s i p r → r ≡ number.Found b q → b < 2
+bit-small : {s : List ℕ} {i : ℕ} {p : Place} {r : Result (ℕ × ℕ) Refusal} {b q : ℕ} → BitTaken s i p r → r ≡ Ok (b, q) → b < 2
 unfolding reading.bit
 bit-small {s} {i} {p} {r} {b} {q} told is = by (ltb p (8 * length s)) refl where
   found-is : reading.bit s i p ≡ found b q
-  found-is = told.answer ∙ ap number_found is
+  found-is = told.answer ∙ ap finding is
 
   by : (x : Bool) → ltb p (8 * length s) ≡ x → b < 2
   by true e =
@@ -118,13 +117,13 @@ pub taken-fits : {n : ℕ} {s : List ℕ} {i : ℕ} {p : Place} {value next k : 
     → value * 2 < 2 ^ 64
 taken-fits {n} {k = k} t more few = omega (arith, t.small, pow_mono {i = k} {j = 16} (omega arith))
 
-pub one-fits : {n : ℕ} {s : List ℕ} {i : ℕ} {p : Place} {value next k b q : ℕ} {r : Number} → Taking n s i p value next k → k < n → n ≤ 16
-    → BitTaken s i next r → r ≡ number.Found b q → value * 2 + b < 2 ^ 64
+pub one-fits : {n : ℕ} {s : List ℕ} {i : ℕ} {p : Place} {value next k b q : ℕ} {r : Result (ℕ × ℕ) Refusal} → Taking n s i p value next k → k < n → n ≤ 16
+    → BitTaken s i next r → r ≡ Ok (b, q) → value * 2 + b < 2 ^ 64
 one-fits {n} {k = k} t more few told is = omega (arith, t.small, pow_mono {i = k} {j = 16} (omega arith), bit-small told is)
 
 -- the turn, of any bit
-pub taking-next : {n : ℕ} {s : List ℕ} {i : ℕ} {p : Place} {value next k b q : ℕ} {r : Number} → Taking n s i p value next k → k < n
-    → BitTaken s i next r → r ≡ number.Found b q → Taking n s i p (value * 2 + b) q (k + 1)
+pub taking-next : {n : ℕ} {s : List ℕ} {i : ℕ} {p : Place} {value next k b q : ℕ} {r : Result (ℕ × ℕ) Refusal} → Taking n s i p value next k → k < n
+    → BitTaken s i next r → r ≡ Ok (b, q) → Taking n s i p (value * 2 + b) q (k + 1)
 taking-next t more told is = taking-turn t more told is (bit-small told is)
 
 pub ruleset takings = (taking-start, taking-next, taking-refused, taking-end, taken-fits, one-fits)

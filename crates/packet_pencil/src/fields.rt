@@ -1,135 +1,83 @@
 // Data-Field ::= SEQUENCE OF SEQUENCE { field-type, field-data OPTIONAL }
-ghost use Rattle.std.specs.Prelude.{◌≡◌, ◌≤◌, length};
+ghost use Rattle.std.specs.Prelude.{◌≤◌, length};
 ghost use Rattle.datagram.specs.Sizes.{packet_limit};
-ghost use Rattle.format.specs.Reading.{stopped};
 ghost use Rattle.packet.specs.Packet.{fields_limit};
-ghost use Rattle.packet_pencil.specs.Fields.{HeaderTaken, FieldTaken, fields_taken, SequenceTaken, FieldsTaken};
+ghost use Rattle.packet_pencil.specs.Fields.{HeaderTaken, FieldTaken, SequenceTaken, FieldsTaken};
 
-use crate::bits::{Marked, Number, flag};
-use crate::items::{Part, count, field_data, field_type};
-use length::Refusal;
+use crate::bits::flag;
+use crate::items::{count, field_data, field_type};
+use length::{Reason, Refusal};
 use packet::{Field, Named};
 use packet_reader::no_fields;
 
-// A field's type, whether it has data, and the place after both.
-#[derive(Drop)]
-pub enum HeaderRead {
-    Found(u8, bool, usize),
-    Refused(Refusal),
-}
-
-// A field, and the place after it.
-#[derive(Drop)]
-pub enum One {
-    Found(Field, usize),
-    Refused(Refusal),
-}
-
-// How many fields there are, and the place after them.
-#[derive(Drop)]
-pub enum All {
-    Found(usize, usize),
-    Refused(Refusal),
-}
-
-// The fields that were read; those of a refused packet are all zero (rule 6.27).
+// The fields that were read: the first `count` places of `fields`. All others are zero (rule 6.27). `next` is the place after them.
+// There is no heap, so the array has room for the most fields.
 #[derive(Drop)]
 pub struct Fields {
-    pub all: All,
+    pub count: usize,
     pub fields: [Field; Field::LIMIT],
+    pub next: usize,
 }
 
-// The bit for field-data OPTIONAL, and the field type: one item (rules 6.7 and 7.9). Which types carry data is the same in both editions.
-pub fn header(named: Named, octets: &[u8], at: usize) -> HeaderRead
+// The field type, behind the bit for field-data OPTIONAL: one item (rules 6.7 and 7.9). The type, whether it has data, and the place after
+// both. Which types carry data is the same in both editions.
+pub fn header(named: Named, octets: &[u8], at: usize) -> Result<(u8, bool, usize), Refusal>
     requires { length octets.now ≤ packet_limit }
     ensures { HeaderTaken named octets.now at result }
 {
     let item = at / 8;
-    match flag(octets, item, at) {
-        Marked::Refused(refusal) => HeaderRead::Refused(refusal),
-        Marked::Found(present, next) => match field_type(named, octets, item, next) {
-            Number::Refused(refusal) => HeaderRead::Refused(refusal),
-            Number::Found(kind, end) => {
-                let small = (kind % 256) as u8;
-                if packet_rules::right_data(small, present) {
-                    return HeaderRead::Found(small, present, end);
-                }
-                HeaderRead::Refused(Refusal::at(Refusal::WRONG_DATA, item))
-            }
-        },
+    let (present, next) = flag(octets, item, at)?;
+    let (kind, end) = field_type(named, octets, item, next)?;
+    let small = (kind % 256) as u8;
+    if packet_rules::right_data(small, present) {
+        Ok((small, present, end))
+    } else {
+        Err(Refusal::at(Reason::WrongData, item))
     }
 }
 
-// SEQUENCE { field-type, field-data OPTIONAL }
-pub fn field(named: Named, octets: &[u8], at: usize) -> One
+// SEQUENCE { field-type, field-data OPTIONAL }, and the place after it.
+pub fn field(named: Named, octets: &[u8], at: usize) -> Result<(Field, usize), Refusal>
     requires { length octets.now ≤ packet_limit }
     ensures { FieldTaken named octets.now at result }
 {
-    match header(named, octets, at) {
-        HeaderRead::Refused(refusal) => One::Refused(refusal),
-        HeaderRead::Found(kind, present, next) => {
-            if !present {
-                return One::Found(
-                    Field {
-                        kind,
-                        start: 0,
-                        size: 0,
-                    },
-                    next,
-                );
-            }
-            match field_data(octets, next) {
-                Part::Refused(refusal) => One::Refused(refusal),
-                Part::Found(start, size, end) => One::Found(Field { kind, start, size }, end),
-            }
-        }
+    let (kind, present, next) = header(named, octets, at)?;
+    if !present {
+        let bare = Field {
+            kind,
+            start: 0,
+            size: 0,
+        };
+        return Ok((bare, next));
     }
-}
-
-// No fields, with this refusal.
-fn refused(refusal: Refusal) -> Fields
-    ensures { result ≡ fields_taken (stopped refusal) }
-{
-    let fields = no_fields();
-    Fields {
-        all: All::Refused(refusal),
-        fields,
-    }
+    let (start, size, end) = field_data(octets, next)?;
+    Ok((Field { kind, start, size }, end))
 }
 
 // SEQUENCE OF: `count` fields, one after the other.
-fn sequence(named: Named, octets: &[u8], from: usize, count: usize) -> Fields
+fn sequence(named: Named, octets: &[u8], from: usize, count: usize) -> Result<Fields, Refusal>
     requires { (length octets.now ≤ packet_limit) × (count ≤ fields_limit) }
     ensures { SequenceTaken named count octets.now from result }
 {
     let mut fields = no_fields();
     let mut at = from;
-    let mut i: usize = 0;
-    while i < count {
-        match field(named, octets, at) {
-            One::Refused(refusal) => {
-                return refused(refusal);
-            }
-            One::Found(one, next) => {
-                fields[i] = one;
-                at = next;
-                i += 1;
-            }
-        }
+    for i in 0..count {
+        let (one, next) = field(named, octets, at)?;
+        fields[i] = one;
+        at = next;
     }
-    Fields {
-        all: All::Found(count, at),
+    Ok(Fields {
+        count,
         fields,
-    }
+        next: at,
+    })
 }
 
 // Data-Field: the count of fields, and the fields (rule 6.4).
-pub fn data_field(named: Named, octets: &[u8], at: usize) -> Fields
+pub fn data_field(named: Named, octets: &[u8], at: usize) -> Result<Fields, Refusal>
     requires { length octets.now ≤ packet_limit }
     ensures { FieldsTaken named octets.now at result }
 {
-    match count(octets, at) {
-        Number::Refused(refusal) => refused(refusal),
-        Number::Found(n, next) => sequence(named, octets, next, n),
-    }
+    let (n, next) = count(octets, at)?;
+    sequence(named, octets, next, n)
 }

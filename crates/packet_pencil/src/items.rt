@@ -6,9 +6,9 @@ ghost use Rattle.packet_laws.specs.Octets.{Narrow};
 ghost use Rattle.packet_pencil.specs.Items.{RootTaken, AddedTaken, AdditionTaken, ValueTaken};
 ghost use Rattle.packet_pencil.specs.Items.{OctetTaken, LongTaken, LengthTaken, CountTaken, SizeTaken, PartTaken};
 
-use crate::bits::{Edge, Marked, Number, align, bits, flag};
+use crate::bits::{align, bits, flag};
 use datagram::Packet;
-use length::Refusal;
+use length::{Reason, Refusal};
 use packet::{Enumerated, Field, Named, PacketKind};
 
 // How many bits an added value takes, behind the bit for extension and a bit that is 0 (rule 7.5).
@@ -25,88 +25,94 @@ const LONG_LEAST: usize = 128;
 // How many bits the length of a field's data has (rule 6.8).
 const SIZE_WIDTH: usize = 16;
 
-// Where a field's data begins, how many octets it has, and the place after it.
-#[derive(Drop)]
-pub enum Part {
-    Found(usize, usize, usize),
-    Refused(Refusal),
-}
-
 // One of the values before the extension mark, in as many bits as they have (rule 6.3).
-fn root(octets: &[u8], item: usize, at: usize, values: Enumerated) -> Number
+fn root(
+    octets: &[u8],
+    item: usize,
+    at: usize,
+    values: Enumerated,
+) -> Result<(usize, usize), Refusal>
     requires { (length octets.now ≤ packet_limit) × Narrow values }
     ensures { RootTaken values octets.now item at result }
 {
-    match bits(octets, item, at, values.width) {
-        Number::Refused(refusal) => Number::Refused(refusal),
-        Number::Found(value, next) => {
-            if value < values.assigned {
-                return Number::Found(value, next);
-            }
-            Number::Refused(Refusal::at(Refusal::NOT_ASSIGNED, item))
-        }
+    let (value, next) = bits(octets, item, at, values.width)?;
+    if value < values.assigned {
+        Ok((value, next))
+    } else {
+        Err(Refusal::at(Reason::NotAssigned, item))
     }
 }
 
 // Which of the added values, in six bits counted from zero; past the last one it is 12 (rules 7.5 and 7.8).
-fn counted(octets: &[u8], item: usize, at: usize, values: Enumerated) -> Number
+fn counted(
+    octets: &[u8],
+    item: usize,
+    at: usize,
+    values: Enumerated,
+) -> Result<(usize, usize), Refusal>
     requires { (length octets.now ≤ packet_limit) × Narrow values }
     ensures { AddedTaken values octets.now item at result }
 {
-    match bits(octets, item, at, ADDED_WIDTH) {
-        Number::Refused(refusal) => Number::Refused(refusal),
-        Number::Found(which, next) => {
-            if which < values.added {
-                let value = values.assigned + which;
-                return Number::Found(value, next);
-            }
-            Number::Refused(Refusal::at(Refusal::NOT_ASSIGNED, item))
-        }
+    let (which, next) = bits(octets, item, at, ADDED_WIDTH)?;
+    if which < values.added {
+        Ok((values.assigned + which, next))
+    } else {
+        Err(Refusal::at(Reason::NotAssigned, item))
     }
 }
 
 // One of the values added after the extension mark, if any, behind the bit for extension: a 0 bit, then which one (rules 7.5 to 7.8).
-fn addition(octets: &[u8], item: usize, at: usize, values: Enumerated) -> Number
+fn addition(
+    octets: &[u8],
+    item: usize,
+    at: usize,
+    values: Enumerated,
+) -> Result<(usize, usize), Refusal>
     requires { (length octets.now ≤ packet_limit) × Narrow values }
     ensures { AdditionTaken values octets.now item at result }
 {
     if values.added == 0 {
-        return Number::Refused(Refusal::at(Refusal::NOT_ASSIGNED, item));
+        return Err(Refusal::at(Reason::NotAssigned, item));
     }
-    match flag(octets, item, at) {
-        Marked::Refused(refusal) => Number::Refused(refusal),
-        Marked::Found(large, next) => {
-            if large {
-                return Number::Refused(Refusal::at(Refusal::NOT_ASSIGNED, item));
-            }
-            counted(octets, item, next, values)
-        }
+    let (large, next) = flag(octets, item, at)?;
+    if large {
+        Err(Refusal::at(Reason::NotAssigned, item))
+    } else {
+        counted(octets, item, next, values)
     }
 }
 
 // ENUMERATED { .., ..., .. }: the bit for extension, where there is a mark; then a value before the mark or after it (rules 6.2 and 7.5).
-fn enumerated(octets: &[u8], item: usize, at: usize, values: Enumerated) -> Number
+fn enumerated(
+    octets: &[u8],
+    item: usize,
+    at: usize,
+    values: Enumerated,
+) -> Result<(usize, usize), Refusal>
     requires { (length octets.now ≤ packet_limit) × Narrow values }
     ensures { ValueTaken values octets.now item at result }
 {
     if !values.extensible {
         return root(octets, item, at, values);
     }
-    match flag(octets, item, at) {
-        Marked::Refused(refusal) => Number::Refused(refusal),
-        Marked::Found(extended, next) => {
-            if extended {
-                return addition(octets, item, next, values);
-            }
-            root(octets, item, next, values)
-        }
+    let (extended, next) = flag(octets, item, at)?;
+    if extended {
+        addition(octets, item, next, values)
+    } else {
+        root(octets, item, next, values)
     }
 }
 
+// Each production of the ASN.1 has a function of its own, also where two are alike but for their values.
 // 06/98: t30-indicator ENUMERATED { no-signal, .. v17-14400-long-training, ... }
 // 2002:  t30-indicator ENUMERATED { no-signal, .. v17-14400-long-training, ..., v8-ansam, v8-signal, v34-cntl-channel-1200,
 //            v34-pri-channel, v34-CC-retrain, v33-12000-training, v33-14400-training }
-pub fn t30_indicator(named: Named, octets: &[u8], item: usize, at: usize) -> Number
+pub fn t30_indicator(
+    named: Named,
+    octets: &[u8],
+    item: usize,
+    at: usize,
+) -> Result<(usize, usize), Refusal>
     requires { length octets.now ≤ packet_limit }
     ensures { ValueTaken (edition_of named).indicators octets.now item at result }
 {
@@ -116,7 +122,12 @@ pub fn t30_indicator(named: Named, octets: &[u8], item: usize, at: usize) -> Num
 
 // 06/98: data ENUMERATED { v21, .. v17-14400, ... }
 // 2002:  t30-data ENUMERATED { v21, .. v17-14400, ..., v8, v34-pri-rate, v34-CC-1200, v34-pri-ch, v33-12000, v33-14400 }
-pub fn t30_data(named: Named, octets: &[u8], item: usize, at: usize) -> Number
+pub fn t30_data(
+    named: Named,
+    octets: &[u8],
+    item: usize,
+    at: usize,
+) -> Result<(usize, usize), Refusal>
     requires { length octets.now ≤ packet_limit }
     ensures { ValueTaken (edition_of named).kinds octets.now item at result }
 {
@@ -126,7 +137,12 @@ pub fn t30_data(named: Named, octets: &[u8], item: usize, at: usize) -> Number
 
 // 06/98: field-type ENUMERATED { hdlc-data, .. t4-non-ecm-sig-end }
 // 2002:  field-type ENUMERATED { hdlc-data, .. t4-non-ecm-sig-end, ..., cm-message, jm-message, ci-message, v34rate }
-pub fn field_type(named: Named, octets: &[u8], item: usize, at: usize) -> Number
+pub fn field_type(
+    named: Named,
+    octets: &[u8],
+    item: usize,
+    at: usize,
+) -> Result<(usize, usize), Refusal>
     requires { length octets.now ≤ packet_limit }
     ensures { ValueTaken (edition_of named).types octets.now item at result }
 {
@@ -140,113 +156,84 @@ pub fn octet(octets: &[u8], at: usize) -> usize
 {
     let whole = at / 8;
     if octets.len() < whole {
-        return octets.len();
+        octets.len()
+    } else {
+        whole
     }
-    whole
 }
 
 // A length in two octets, behind its first bit, a 1: a 0 bit, then fourteen bits, for 128 or more; otherwise it is 3 (rules 3.2 to 3.4).
-fn long(octets: &[u8], item: usize, at: usize) -> Number
+fn long(octets: &[u8], item: usize, at: usize) -> Result<(usize, usize), Refusal>
     requires { length octets.now ≤ packet_limit }
     ensures { LongTaken octets.now item at result }
 {
-    match flag(octets, item, at) {
-        Marked::Refused(refusal) => Number::Refused(refusal),
-        Marked::Found(longer, next) => {
-            if longer {
-                return Number::Refused(Refusal::at(Refusal::BAD_FORM, item));
-            }
-            match bits(octets, item, next, LONG_WIDTH) {
-                Number::Refused(refusal) => Number::Refused(refusal),
-                Number::Found(value, end) => {
-                    if value < LONG_LEAST {
-                        return Number::Refused(Refusal::at(Refusal::BAD_FORM, item));
-                    }
-                    Number::Found(value, end)
-                }
-            }
-        }
+    let (longer, next) = flag(octets, item, at)?;
+    if longer {
+        return Err(Refusal::at(Reason::BadForm, item));
+    }
+    let (value, end) = bits(octets, item, next, LONG_WIDTH)?;
+    if value < LONG_LEAST {
+        Err(Refusal::at(Reason::BadForm, item))
+    } else {
+        Ok((value, end))
     }
 }
 
 // A length or count by the length rule: a 0 bit, then seven bits; or the long form behind a 1 bit (rules 3.1 and 3.2).
-fn counting(octets: &[u8], item: usize, at: usize) -> Number
+fn counting(octets: &[u8], item: usize, at: usize) -> Result<(usize, usize), Refusal>
     requires { length octets.now ≤ packet_limit }
     ensures { LengthTaken octets.now item at result }
 {
-    match flag(octets, item, at) {
-        Marked::Refused(refusal) => Number::Refused(refusal),
-        Marked::Found(is_long, next) => {
-            if is_long {
-                return long(octets, item, next);
-            }
-            bits(octets, item, next, SHORT_WIDTH)
-        }
+    let (is_long, next) = flag(octets, item, at)?;
+    if is_long {
+        long(octets, item, next)
+    } else {
+        bits(octets, item, next, SHORT_WIDTH)
     }
 }
 
 // The count of fields of a SEQUENCE OF, 1 to 16, by the length rule (rule 6.4).
-pub fn count(octets: &[u8], at: usize) -> Number
+pub fn count(octets: &[u8], at: usize) -> Result<(usize, usize), Refusal>
     requires { length octets.now ≤ packet_limit }
     ensures { CountTaken octets.now at result }
 {
-    match align(octets, at) {
-        Edge::Refused(refusal) => Number::Refused(refusal),
-        Edge::Found(edge) => {
-            let item = edge / 8;
-            match counting(octets, item, edge) {
-                Number::Refused(refusal) => Number::Refused(refusal),
-                Number::Found(value, next) => {
-                    if value < Field::LEAST {
-                        return Number::Refused(Refusal::at(Refusal::OUTSIDE_SIZES, item));
-                    }
-                    if Field::LIMIT < value {
-                        return Number::Refused(Refusal::at(Refusal::OUTSIDE_SIZES, item));
-                    }
-                    Number::Found(value, next)
-                }
-            }
-        }
+    let edge = align(octets, at)?;
+    let item = edge / 8;
+    let (value, next) = counting(octets, item, edge)?;
+    if value < Field::LEAST {
+        return Err(Refusal::at(Reason::OutsideSizes, item));
     }
+    if Field::LIMIT < value {
+        return Err(Refusal::at(Reason::OutsideSizes, item));
+    }
+    Ok((value, next))
 }
 
 // The length of an OCTET STRING (SIZE (1..65535)): sixteen bits, from an octet edge on, with the length minus one (rules 6.8 and 6.9).
-pub fn size(octets: &[u8], at: usize) -> Number
+pub fn size(octets: &[u8], at: usize) -> Result<(usize, usize), Refusal>
     requires { length octets.now ≤ packet_limit }
     ensures { SizeTaken octets.now at result }
 {
-    match align(octets, at) {
-        Edge::Refused(refusal) => Number::Refused(refusal),
-        Edge::Found(edge) => {
-            let item = edge / 8;
-            match bits(octets, item, edge, SIZE_WIDTH) {
-                Number::Refused(refusal) => Number::Refused(refusal),
-                Number::Found(less_one, next) => {
-                    if Packet::LIMIT <= less_one {
-                        return Number::Refused(Refusal::at(Refusal::OUTSIDE_SIZES, item));
-                    }
-                    let size = less_one + 1;
-                    Number::Found(size, next)
-                }
-            }
-        }
+    let edge = align(octets, at)?;
+    let item = edge / 8;
+    let (less_one, next) = bits(octets, item, edge, SIZE_WIDTH)?;
+    if Packet::LIMIT <= less_one {
+        Err(Refusal::at(Reason::OutsideSizes, item))
+    } else {
+        Ok((less_one + 1, next))
     }
 }
 
-// field-data OCTET STRING (SIZE (1..65535))
-pub fn field_data(octets: &[u8], at: usize) -> Part
+// field-data OCTET STRING (SIZE (1..65535)): the octet at which the data begins, how many octets it has, and the place after it.
+pub fn field_data(octets: &[u8], at: usize) -> Result<(usize, usize, usize), Refusal>
     requires { length octets.now ≤ packet_limit }
     ensures { PartTaken octets.now at result }
 {
-    match size(octets, at) {
-        Number::Refused(refusal) => Part::Refused(refusal),
-        Number::Found(size, begin) => {
-            let start = octet(octets, begin);
-            if octets.len() - start < size {
-                return Part::Refused(Refusal::at(Refusal::ENDS_EARLY, begin / 8));
-            }
-            let next = begin + 8 * size;
-            Part::Found(start, size, next)
-        }
+    let (size, begin) = size(octets, at)?;
+    let start = octet(octets, begin);
+    if octets.len() - start < size {
+        Err(Refusal::at(Reason::EndsEarly, begin / 8))
+    } else {
+        Ok((start, size, begin + 8 * size))
     }
 }

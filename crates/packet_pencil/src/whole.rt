@@ -5,20 +5,22 @@ ghost use Rattle.packet.specs.Promise.{ReadBy};
 ghost use Rattle.packet_reader.specs.Items.{NamedTold};
 ghost use Rattle.packet_pencil.specs.Packet.{ChosenTaken, TypeTaken, StartTaken, AfterTaken};
 
-use crate::bits::{Edge, Marked, Number, align, flag};
-use crate::fields::{All, Fields, data_field};
+use crate::bits::{align, flag};
+use crate::fields::{Fields, data_field};
 use crate::items::{octet, t30_data, t30_indicator};
 use datagram::Packet;
-use length::Refusal;
-use packet::{Choice, Ending, Named, PacketKind, PacketRead, PacketReading};
+use length::{Reason, Refusal};
+use packet::{Ending, Named, PacketKind, PacketRead};
 use packet_reader::{may_follow, no_fields};
 use packet_rules::choice_of;
 
 // A packet's kind and value, whether it has a data field, and the place after them.
 #[derive(Drop)]
-pub enum First {
-    Found(PacketKind, u8, bool, usize),
-    Refused(Refusal),
+pub struct First {
+    pub kind: PacketKind,
+    pub value: u8,
+    pub present: bool,
+    pub next: usize,
 }
 
 // 06/98: CHOICE { t30-indicator ENUMERATED .., data ENUMERATED .. }: the one that was chosen.
@@ -30,66 +32,58 @@ fn chosen(
     at: usize,
     present: bool,
     is_data: bool,
-) -> First
+) -> Result<First, Refusal>
     requires { length octets.now ≤ packet_limit }
     ensures { ChosenTaken named present is_data octets.now item at result }
 {
     if is_data {
-        return match t30_data(named, octets, item, at) {
-            Number::Refused(refusal) => First::Refused(refusal),
-            Number::Found(value, next) => {
-                let small = (value % 256) as u8;
-                First::Found(PacketKind::Data, small, present, next)
-            }
-        };
+        let (value, next) = t30_data(named, octets, item, at)?;
+        return Ok(First {
+            kind: PacketKind::Data,
+            value: (value % 256) as u8,
+            present,
+            next,
+        });
     }
-    match t30_indicator(named, octets, item, at) {
-        Number::Refused(refusal) => First::Refused(refusal),
-        Number::Found(value, next) => {
-            let small = (value % 256) as u8;
-            First::Found(PacketKind::Indicator, small, present, next)
-        }
-    }
+    let (value, next) = t30_indicator(named, octets, item, at)?;
+    Ok(First {
+        kind: PacketKind::Indicator,
+        value: (value % 256) as u8,
+        present,
+        next,
+    })
 }
 
 // The bit for data-field OPTIONAL, and the Type-of-msg.
-pub fn type_of_msg(named: Named, octets: &[u8], item: usize, at: usize) -> First
+pub fn type_of_msg(named: Named, octets: &[u8], item: usize, at: usize) -> Result<First, Refusal>
     requires { length octets.now ≤ packet_limit }
     ensures { TypeTaken named octets.now item at result }
 {
-    match flag(octets, item, at) {
-        Marked::Refused(refusal) => First::Refused(refusal),
-        Marked::Found(present, next) => match flag(octets, item, next) {
-            Marked::Refused(refusal) => First::Refused(refusal),
-            Marked::Found(is_data, value_at) => chosen(
-                named, octets, item, value_at, present, is_data,
-            ),
-        },
-    }
+    let (present, next) = flag(octets, item, at)?;
+    let (is_data, value_at) = flag(octets, item, next)?;
+    chosen(named, octets, item, value_at, present, is_data)
 }
 
 // The start of a packet: its type, zero bits to an octet edge, and no data field on an indicator (rule 6.14).
-pub fn start(named: Named, octets: &[u8], at: usize) -> First
+pub fn start(named: Named, octets: &[u8], at: usize) -> Result<First, Refusal>
     requires { length octets.now ≤ packet_limit }
     ensures { StartTaken named octets.now at result }
 {
     let item = at / 8;
-    match type_of_msg(named, octets, item, at) {
-        First::Refused(refusal) => First::Refused(refusal),
-        First::Found(kind, value, present, next) => match align(octets, next) {
-            Edge::Refused(refusal) => First::Refused(refusal),
-            Edge::Found(edge) => {
-                if packet_rules::right_fields(kind, present) {
-                    return First::Found(kind, value, present, edge);
-                }
-                First::Refused(Refusal::at(Refusal::WRONG_DATA, item))
-            }
-        },
+    let first = type_of_msg(named, octets, item, at)?;
+    let edge = align(octets, first.next)?;
+    if packet_rules::right_fields(first.kind, first.present) {
+        Ok(First {
+            next: edge,
+            ..first
+        })
+    } else {
+        Err(Refusal::at(Reason::WrongData, item))
     }
 }
 
 // data-field Data-Field OPTIONAL
-fn optional(named: Named, octets: &[u8], at: usize, present: bool) -> Fields
+fn optional(named: Named, octets: &[u8], at: usize, present: bool) -> Result<Fields, Refusal>
     requires { length octets.now ≤ packet_limit }
     ensures { AfterTaken named present octets.now at result }
 {
@@ -97,51 +91,42 @@ fn optional(named: Named, octets: &[u8], at: usize, present: bool) -> Fields
         return data_field(named, octets, at);
     }
     let fields = no_fields();
-    Fields {
-        all: All::Found(0, at),
+    Ok(Fields {
+        count: 0,
         fields,
-    }
+        next: at,
+    })
 }
 
-// A packet of this edition: its kind, value and fields, or its first refusal: 4 over the packet limit, then reading order (rule 6.13).
-fn read_named(named: Named, octets: &[u8], ending: Ending) -> PacketRead
+// A packet of this edition, or its first refusal: 4 over the packet limit, then reading order (rule 6.13).
+fn read_named(named: Named, octets: &[u8], ending: Ending) -> Result<PacketRead, Refusal>
     ensures { NamedTold named ending octets.now result }
 {
     if Packet::LIMIT < octets.len() {
-        return packet_reader::refused(Refusal::new(Refusal::OUTSIDE_SIZES));
+        return Err(Refusal::new(Reason::OutsideSizes));
     }
-    match start(named, octets, 0) {
-        First::Refused(refusal) => packet_reader::refused(refusal),
-        First::Found(kind, value, present, at) => {
-            let found = optional(named, octets, at, present);
-            let all = found.all;
-            match all {
-                All::Refused(refusal) => packet_reader::refused(refusal),
-                All::Found(count, next) => match align(octets, next) {
-                    Edge::Refused(refusal) => packet_reader::refused(refusal),
-                    Edge::Found(edge) => {
-                        let from = octet(octets, edge);
-                        if may_follow(&octets[from..], ending) {
-                            let fields = found.fields;
-                            return PacketRead {
-                                reading: PacketReading::Packet { kind, value, count },
-                                fields,
-                            };
-                        }
-                        packet_reader::refused(Refusal::at(Refusal::LEFT_OVER, edge / 8))
-                    }
-                },
-            }
-        }
+    let first = start(named, octets, 0)?;
+    let all = optional(named, octets, first.next, first.present)?;
+    let edge = align(octets, all.next)?;
+    let from = octet(octets, edge);
+    if !may_follow(&octets[from..], ending) {
+        return Err(Refusal::at(Reason::LeftOver, edge / 8));
     }
+    let fields = all.fields;
+    Ok(PacketRead {
+        kind: first.kind,
+        value: first.value,
+        count: all.count,
+        fields,
+    })
 }
 
 // A packet of the edition that an octet names, 0 that of 06/98 and 1 that of 2002; another octet is 15, before all (rules 7.1 and 7.2).
-pub fn read(edition: u8, octets: &[u8], ending: Ending) -> PacketRead
+pub fn read(edition: u8, octets: &[u8], ending: Ending) -> Result<PacketRead, Refusal>
     ensures { ReadBy edition ending octets.now result }
 {
     match choice_of(edition) {
-        Choice::Neither => packet_reader::refused(Refusal::new(Refusal::WRONG_SETTINGS)),
-        Choice::Edition(named) => read_named(named, octets, ending),
+        Some(named) => read_named(named, octets, ending),
+        None => Err(Refusal::new(Reason::WrongSettings)),
     }
 }

@@ -1,5 +1,6 @@
 -- The loop of the packet reader, one turn: the fields that are left to read, put after those that were read, are the fields
 -- of the packet. Assumes nothing.
+use Rattle.std.proofs.Common.{Result, Ok, Err}
 use Prim.Native.Nat.{ℕ, suc, ◌+◌, ◌-◌, ◌≤◌, ◌<◌}
 use mathlib.Core.Path.{◌≡◌, refl, sym, ap, ◌∙◌}
 use mathlib.Core.List.{List, [], ◌∷◌, ◌++◌, append_assoc, append-nil}
@@ -17,9 +18,6 @@ use Rattle.packet.specs.Promise.{padded_fields}
 use Rattle.packet_laws.proofs.Laws.{field-inside}
 use Rattle.packet_reader.specs.Items.{InPacket, FieldTold, FieldsTold, field_outcome}
 use Rattle.packet.specs.declared.types.Field.{Field}
-use Rattle.packet_reader.specs.declared.items.FieldRead.{FieldRead}
-use Rattle.packet_reader.specs.declared.items.FieldRead.TheVariants as field
-use Rattle.packet_reader.specs.declared.reader.FieldsEnd.TheVariants as end
 
 -- ---- fields before those that follow
 abbrev pub after : List Field → Answer FieldsAnswer → Answer FieldsAnswer
@@ -81,9 +79,9 @@ module _ {named : Named} {s : List ℕ} {count from : ℕ} where
       }
 
   module _ {fields : List Field} {p i : ℕ} where
-    pub going-turn : {r : FieldRead} {f : Field} {next : ℕ} → Going named s count from fields p i → count ≤ fields_limit → i < count
+    pub going-turn : {r : Result (Field × ℕ) Refusal} {f : Field} {next : ℕ} → Going named s count from fields p i → count ≤ fields_limit → i < count
         → FieldTold named s p r
-        → r ≡ field.Field f next → Going named s count from (set fields i f) next (i + 1)
+        → r ≡ Ok (f, next) → Going named s count from (set fields i f) next (i + 1)
     going-turn {r} {f} {next} g limit more told is =
         let e : field_at (edition_of named) s p ≡ done (record { field = f; next = next }) = sym told.answer ∙ ap field_outcome is in
         let n : count - i ≡ suc (count - (i + 1)) = omega arith in
@@ -99,19 +97,18 @@ module _ {named : Named} {s : List ℕ} {count from : ℕ} where
               ∙ after-after g.pre (f ∷ []) (fields_at (edition_of named) (count - (i + 1)) s next);
         }
 
-    pub going-refused : {r : FieldRead} {x : Refusal} {none : List Field} → Going named s count from fields p i → i < count
-        → FieldTold named s p r → r ≡ field.Refused x → none ≡ padded_fields []
-        → FieldsTold named count s from (record { end = end.Refused x; fields = none })
-    going-refused {r} {x} {none} g more told is empty =
+    pub going-refused : {r : Result (Field × ℕ) Refusal} {x : Refusal} → Going named s count from fields p i → i < count
+        → FieldTold named s p r → r ≡ Err x → FieldsTold named count s from (Err x)
+    going-refused {r} {x} g more told is =
         let e : field_at (edition_of named) s p ≡ refused x = sym told.answer ∙ ap field_outcome is in
         let n : count - i ≡ suc (count - (i + 1)) = omega arith in
         let all : fields_at (edition_of named) count s from ≡ refused x
         = g.whole ∙ ap (λ (k : ℕ). after g.pre (fields_at (edition_of named) k s p)) n
         ∙ ap (after g.pre) (fields-stop (edition_of named) (count - (i + 1)) s p x e) in
-        record { answer = rw (all, empty) }
+        record { answer = rw all }
 
     pub going_done : Going named s count from fields p i → count ≤ i
-        → FieldsTold named count s from (record { end = end.Next p; fields = fields })
+        → FieldsTold named count s from (Ok (record { fields = fields; next = p }))
     unfolding fields_at
     going_done g all =
         let e : count - i ≡ 0 = omega (arith, g.few) in

@@ -1,5 +1,6 @@
 -- One law for each answer of the functions that read the first item and a field's header, in the words of the code: the tests that led
 -- there give the promise. Assumes nothing.
+use Rattle.std.proofs.Common.{Result, Ok, Err}
 use Prim.Native.Nat.{ℕ, ◌+◌, ◌*◌, ◌/◌, ◌%◌, ◌≤◌, ◌<◌, ◌^◌}
 use mathlib.Core.Path.{◌≡◌, refl, sym, ap, ap₂, subst, ◌∙◌}
 use mathlib.Core.Bool.{Bool, true, false, cond}
@@ -21,31 +22,25 @@ use Rattle.packet.specs.declared.types.Enumerated.{Enumerated}
 use Rattle.packet.specs.declared.types.PacketKind.{PacketKind}
 use Rattle.packet.specs.declared.types.Named.{Named}
 use Rattle.packet.specs.declared.types.Named.TheVariants.{Old, New}
-use Rattle.packet_reader.specs.Items.{InPacket, NearPacket, Power, BitTold, BitsTold, EdgeTold, edge_outcome, PlainTold, ValueTold}
+use Rattle.packet_reader.specs.Items.{InPacket, NearPacket, Power, BitTold, BitsTold, EdgeTold, outcome, PlainTold, ValueTold}
 use Rattle.packet_reader.specs.Items.{value_outcome, after_first, AfterFirst, FirstHere, FirstTold, after_type, AfterType, HeaderTold}
-use Rattle.packet_reader.specs.declared.places.EdgeRead.{EdgeRead}
-use Rattle.packet_reader.specs.declared.places.EdgeRead.TheVariants as edge
-use Rattle.packet_reader.specs.declared.values.ValueRead.{ValueRead}
-use Rattle.packet_reader.specs.declared.values.ValueRead.TheVariants as value
-use Rattle.packet_reader.specs.declared.items.FirstRead.{FirstRead}
-use Rattle.packet_reader.specs.declared.items.FirstRead.TheVariants as first
-use Rattle.packet_reader.specs.declared.items.HeaderRead.{HeaderRead}
-use Rattle.packet_reader.specs.declared.items.HeaderRead.TheVariants as header
+use Rattle.packet_reader.specs.declared.items.First.{First}
+use Rattle.packet_reader.specs.declared.items.Header.{Header}
 use Rattle.packet_reader.proofs.ReadValues.{value-whole}
 
 -- ---- the first item
 -- what follows the value
-module _ {s : List ℕ} {k : PacketKind} {v : ℕ} {p : Place} {d : EdgeRead} (edged : EdgeTold s p d) where
-  pub first-spare : {r : Refusal} → d ≡ edge.Refused r → AfterFirst s k v p (first.Refused r)
-  first-spare stops = record { answer = rw (sym edged.answer ∙ ap edge_outcome stops) }
+module _ {s : List ℕ} {k : PacketKind} {v : ℕ} {p : Place} {d : Result ℕ Refusal} (edged : EdgeTold s p d) where
+  pub first-spare : {r : Refusal} → d ≡ Err r → AfterFirst s k v p (Err r)
+  first-spare stops = record { answer = rw (sym edged.answer ∙ ap (outcome (λ (n : ℕ). n)) stops) }
 
-  module _ {o : ℕ} {b t : Bool} (ends : d ≡ edge.Edge o) (bit : BitTold s 0 b) (test : t ≡ right_fields k b) where
-    pub first-wrong : {r : Refusal} → RefusalMade wrong_data r → t ≡ false → AfterFirst s k v p (first.Refused r)
+  module _ {o : ℕ} {b t : Bool} (ends : d ≡ Ok o) (bit : BitTold s 0 b) (test : t ≡ right_fields k b) where
+    pub first-wrong : {r : Refusal} → RefusalMade wrong_data r → t ≡ false → AfterFirst s k v p (Err r)
     first-wrong made wrong =
-        record { answer = rw (made.answer, sym edged.answer ∙ ap edge_outcome ends, ← bit.answer, ← test, wrong) }
+        record { answer = rw (made.answer, sym edged.answer ∙ ap (outcome (λ (n : ℕ). n)) ends, ← bit.answer, ← test, wrong) }
 
-    pub first_read : t ≡ true → AfterFirst s k v p (first.First k v b o)
-    first_read right = record { answer = rw (sym edged.answer ∙ ap edge_outcome ends, ← bit.answer, ← test, right) }
+    pub first_read : t ≡ true → AfterFirst s k v p (Ok (record { kind = k; value = v; present = b; octets = o }))
+    first_read right = record { answer = rw (sym edged.answer ∙ ap (outcome (λ (n : ℕ). n)) ends, ← bit.answer, ← test, right) }
 
 pub ruleset afters = (first-spare, first-wrong, first_read)
 
@@ -66,24 +61,24 @@ pub first-narrow : (named : Named) (k : PacketKind) {e : Enumerated} → e ≡ v
 first-narrow named k is = subst Narrow (sym is) ((narrow named).of_kind k)
 
 -- a place after a value that reads lies inside the octets
-pub first-inside : {e : Enumerated} {s : List ℕ} {k : PacketKind} {x : ValueRead} {v n : ℕ} → FirstHere s k → ValueTold e 0 s 2 x
-    → x ≡ value.Value v n → InPacket s n
+pub first-inside : {e : Enumerated} {s : List ℕ} {k : PacketKind} {x : Result (ℕ × ℕ) Refusal} {v n : ℕ} → FirstHere s k → ValueTold e 0 s 2 x
+    → x ≡ Ok (v, n) → InPacket s n
 first-inside {e} {s} here told is =
     record { few = here.few; here = value-ends e 0 s 2 _ (sym told.answer ∙ ap value_outcome is) }
 
 module _ {named : Named} {s : List ℕ} {k : PacketKind} {e : Enumerated} where
   -- part by part
-  module _ {x : ValueRead} (here : FirstHere s k) (is : e ≡ values (edition_of named) k) (told : ValueTold e 0 s 2 x) where
-    pub first-refused : {r : Refusal} → x ≡ value.Refused r → FirstTold named s (first.Refused r)
+  module _ {x : Result (ℕ × ℕ) Refusal} (here : FirstHere s k) (is : e ≡ values (edition_of named) k) (told : ValueTold e 0 s 2 x) where
+    pub first-refused : {r : Refusal} → x ≡ Err r → FirstTold named s (Err r)
     first-refused at =
         record { answer = sym (value-was named s k e _ here.is is (sym told.answer ∙ ap value_outcome at)) }
 
-    pub first-parts : {v n : ℕ} {r : FirstRead} → x ≡ value.Value v n → AfterFirst s k v n r → FirstTold named s r
+    pub first-parts : {v n : ℕ} {r : Result First Refusal} → x ≡ Ok (v, n) → AfterFirst s k v n r → FirstTold named s r
     first-parts at after =
         record { answer = after.answer ∙ sym (value-was named s k e _ here.is is (sym told.answer ∙ ap value_outcome at)) }
 
   -- at once
-  pub first-whole : {w v : ℕ} {r : FirstRead} → k ≡ kind_of s → e ≡ values (edition_of named) k → PlainTold e w → 2 + w ≤ 8 * length s
+  pub first-whole : {w v : ℕ} {r : Result First Refusal} → k ≡ kind_of s → e ≡ values (edition_of named) k → PlainTold e w → 2 + w ≤ 8 * length s
       → BitsTold w s 2 v → v < e.assigned → AfterFirst s k v (2 + w) r → FirstTold named s r
   first-whole {w} {v} kind is plain inside cut known after =
       record { answer = after.answer ∙ sym (value-was named s k e _ kind is (value-whole e w 0 s 2 v plain inside cut.answer known)) }
@@ -99,10 +94,10 @@ pub ruleset firsts = (first-near, first-inside, first-refused, first-parts, firs
 -- ---- a field's header
 -- what follows the type
 module _ {item k : ℕ} {b t : Bool} {p : Place} (test : t ≡ allows (carries k) b) where
-  pub type-wrong : {r : Refusal} → RefusalPlaced wrong_data item r → t ≡ false → AfterType item k b p (header.Refused r)
+  pub type-wrong : {r : Refusal} → RefusalPlaced wrong_data item r → t ≡ false → AfterType item k b p (Err r)
   type-wrong made wrong = record { answer = rw (made.answer, ← test, wrong) }
 
-  pub type-right : t ≡ true → AfterType item k b p (header.Header k b p)
+  pub type-right : t ≡ true → AfterType item k b p (Ok (record { kind = k; present = b; next = p }))
   type-right right = record { answer = rw (← test, right) }
 
 pub ruleset types = (type-wrong, type-right)
@@ -137,11 +132,11 @@ header-narrow named is = subst Narrow (sym is) (narrow named).of_types
 
 module _ {named : Named} {s : List ℕ} {p : Place} {e : Enumerated} (is : e ≡ (edition_of named).types) where
   -- part by part
-  module _ {x : ValueRead} (told : ValueTold e (p / 8) s (p + 1) x) where
-    pub header_refused : {r : Refusal} → x ≡ value.Refused r → HeaderTold named s p (header.Refused r)
+  module _ {x : Result (ℕ × ℕ) Refusal} (told : ValueTold e (p / 8) s (p + 1) x) where
+    pub header_refused : {r : Refusal} → x ≡ Err r → HeaderTold named s p (Err r)
     header_refused at = record { answer = sym (type-was named s p e _ is (sym told.answer ∙ ap value_outcome at)) }
 
-    pub header-parts : {k n : ℕ} {b : Bool} {r : HeaderRead} → x ≡ value.Value k n → BitTold s p b → AfterType (p / 8) k b n r
+    pub header-parts : {k n : ℕ} {b : Bool} {r : Result Header Refusal} → x ≡ Ok (k, n) → BitTold s p b → AfterType (p / 8) k b n r
         → HeaderTold named s p r
     header-parts {k} {n} {b} at bit after =
         record {
@@ -152,7 +147,7 @@ module _ {named : Named} {s : List ℕ} {p : Place} {e : Enumerated} (is : e ≡
         }
 
   -- at once: the highest bit is for data, the others are the type
-  pub header-whole : {w h t : ℕ} {r : HeaderRead} → PlainTold e w → p + (w + 1) ≤ 8 * length s → BitsTold (w + 1) s p h → Power w t
+  pub header-whole : {w h t : ℕ} {r : Result Header Refusal} → PlainTold e w → p + (w + 1) ≤ 8 * length s → BitsTold (w + 1) s p h → Power w t
       → h % t < e.assigned
       → AfterType (p / 8) (h % t) (ltb 0 (h / 2 ^ w % 2)) (p + (w + 1)) r
       → HeaderTold named s p r

@@ -1,5 +1,6 @@
 -- One law for each answer of the functions that read the count of fields and a length of data, in the words of the code: the tests that
 -- led there give the promise. Assumes nothing.
+use Rattle.std.proofs.Common.{Result, Ok, Err}
 use Prim.Native.Nat.{ℕ, ◌+◌, ◌-◌, ◌*◌, ◌≤◌, ◌<◌, ◌^◌}
 use mathlib.Core.Path.{◌≡◌, sym, ap, ◌∙◌}
 use mathlib.Core.Bool.{Bool, true, false, not, cond}
@@ -16,53 +17,50 @@ use Rattle.length.specs.Promise.{Octet, RefusalMade, RefusalPlaced, RefusalTold,
 use Rattle.length.proofs.Laws.{within-done, within-front, refused-same}
 use Rattle.length.specs.declared.Length.{Length}
 use Rattle.length.specs.declared.Refusal.{Refusal}
-use Rattle.length.specs.declared.Length.TheVariants as length
+use Rattle.length.specs.declared.Reason.{Reason}
 use Rattle.datagram.specs.Sizes.{packet_limit}
 use Rattle.packet.specs.Packet.{fields_least, fields_limit}
 use Rattle.packet_laws.specs.Octets.{count_at, size_at}
 use Rattle.packet_reader.specs.Items.{OctetIn, CountTold, SizeTold}
-use Rattle.packet_reader.specs.declared.items.CountRead.TheVariants as count
-use Rattle.packet_reader.specs.declared.items.SizeRead.TheVariants as size
 
 -- ---- the count of fields
 -- a count that reads, from the answer and its case
-within-is : {s : List ℕ} {r : Length} {n k : ℕ} → WithinRead fields_least fields_limit s r → r ≡ length.Value n k
-    → length_within fields_least fields_limit s ≡ done (record { value = n; size = k })
+within-is : {s : List ℕ} {r : Result Length Refusal} {l : Length} → WithinRead fields_least fields_limit s r → r ≡ Ok l
+    → length_within fields_least fields_limit s ≡ done (record { value = l.value; size = l.size })
 within-is read is = sym read.answer ∙ ap length_outcome is
 
-module _ {s : List ℕ} {r : Length} {n k : ℕ} (read : WithinRead fields_least fields_limit s r) (is : r ≡ length.Value n k) where
+module _ {s : List ℕ} {r : Result Length Refusal} {l : Length} (read : WithinRead fields_least fields_limit s r) (is : r ≡ Ok l) where
   -- it takes an octet or two, so that the sums fit
-  count_fits : k ≤ 2
+  count_fits : l.size ≤ 2
   count_fits = (within-done fields_least fields_limit s _ (within-is read is)).sizes.few
 
   module _ {t : List ℕ} {at : ℕ} (inside : OctetIn t at) where
-    pub octets-fit : at + k < 2 ^ 64
+    pub octets-fit : at + l.size < 2 ^ 64
     octets-fit = omega (arith, count_fits, inside.few, inside.here)
 
-    pub place-fits : 8 * (at + k) < 2 ^ 64
+    pub place-fits : 8 * (at + l.size) < 2 ^ 64
     place-fits = omega (arith, count_fits, inside.few, inside.here)
 
 -- a count that is refused begins at the front, so that its place fits
-pub count-place : {s t : List ℕ} {at : ℕ} {r : Length} {why x : Refusal} → OctetIn t at → WithinRead fields_least fields_limit s r
-    → r ≡ length.Refused why → RefusalTold r x → at + x.place < 2 ^ 64
-count-place {s} {t} {at} {r} {why} {x} inside read is told =
-    let same : x ≡ why = told.answer ∙ ap refusal_of is in
+pub count-place : {s t : List ℕ} {at : ℕ} {r : Result Length Refusal} {why : Refusal} → OctetIn t at → WithinRead fields_least fields_limit s r
+    → r ≡ Err why → at + why.place < 2 ^ 64
+count-place {s} {why = why} inside read is =
     let front = (within-front fields_least fields_limit s).front why (sym read.answer ∙ ap length_outcome is) in
-    omega (arith, ap (λ (y : Refusal). y.place) same, inside.few, inside.here)
+    omega (arith, inside.few, inside.here)
 
 module _ {s : List ℕ} {at : ℕ} {b : Bool} where
-  pub count_none : not b ≡ true → CountTold s at b (count.Count 0 (8 * at))
+  pub count_none : not b ≡ true → CountTold s at b (Ok (0, 8 * at))
   unfolding count_at
   count_none absent = record { answer = rw (not-true b absent) }
 
-  pub count-refused : {r : Length} {why x y : Refusal} → not b ≡ false → WithinRead fields_least fields_limit (rest at s) r
-      → r ≡ length.Refused why → RefusalTold r x → y ≡ further at x → CountTold s at b (count.Refused y)
+  pub count-refused : {r : Result Length Refusal} {why y : Refusal} → not b ≡ false → WithinRead fields_least fields_limit (rest at s) r
+      → r ≡ Err why → y ≡ further at why → CountTold s at b (Err y)
   unfolding count_at
-  count-refused present read is told on =
-      record { answer = rw (on, told.answer, is, not-false b present, ← rest-is at s, sym read.answer ∙ ap length_outcome is) }
+  count-refused present read is on =
+      record { answer = rw (on, not-false b present, ← rest-is at s, sym read.answer ∙ ap length_outcome is) }
 
-  pub count-read : {r : Length} {n k : ℕ} → not b ≡ false → WithinRead fields_least fields_limit (rest at s) r
-      → r ≡ length.Value n k → CountTold s at b (count.Count n (8 * (at + k)))
+  pub count-read : {r : Result Length Refusal} {l : Length} → not b ≡ false → WithinRead fields_least fields_limit (rest at s) r
+      → r ≡ Ok l → CountTold s at b (Ok (l.value, 8 * (at + l.size)))
   unfolding count_at
   count-read present read is = record { answer = rw (not-false b present, ← rest-is at s, within-is read is) }
 
@@ -70,19 +68,19 @@ pub ruleset counts = (octets-fit, place-fits, count-place, count_none, count-ref
 
 -- ---- the length of its data
 module _ {s : List ℕ} where
-  pub size-empty : {r : Refusal} → RefusalMade ends_early r → length s < 2 → SizeTold s (size.Refused r)
+  pub size-empty : {r : Refusal} → RefusalMade ends_early r → length s < 2 → SizeTold s (Err r)
   unfolding size_at
   size-empty made short = record { answer = rw (made.answer, lt-ltb (length s) 2 short) }
 
   pub size-over : {r : Refusal} {a b : ℕ} → RefusalMade outside_sizes r → 2 ≤ length s → Octet (get_or s 0 0) a → Octet (get_or s 1 0) b
-      → packet_limit < a * 256 + b + 1 → SizeTold s (size.Refused r)
+      → packet_limit < a * 256 + b + 1 → SizeTold s (Err r)
   unfolding size_at
   size-over made two high low over =
       let h : packet_limit < get_or s 0 0 * 256 + get_or s 1 0 + 1 = rw (high.same, low.same) at over in
       record { answer = rw (made.answer, le-ltb (length s) 2 two, lt-ltb packet_limit _ h) }
 
   pub size-cut : {r : Refusal} {a b : ℕ} → RefusalPlaced ends_early 2 r → 2 ≤ length s → Octet (get_or s 0 0) a → Octet (get_or s 1 0) b
-      → a * 256 + b + 1 ≤ packet_limit → length s - 2 < a * 256 + b + 1 → SizeTold s (size.Refused r)
+      → a * 256 + b + 1 ≤ packet_limit → length s - 2 < a * 256 + b + 1 → SizeTold s (Err r)
   unfolding size_at
   size-cut made two high low few short =
       let h : get_or s 0 0 * 256 + get_or s 1 0 + 1 ≤ packet_limit = rw (high.same, low.same) at few in
@@ -90,7 +88,7 @@ module _ {s : List ℕ} where
       record { answer = rw (made.answer, le-ltb (length s) 2 two, le-ltb packet_limit _ h, lt-ltb (length s - 2) _ k) }
 
   pub size-read : {a b : ℕ} → 2 ≤ length s → Octet (get_or s 0 0) a → Octet (get_or s 1 0) b
-      → a * 256 + b + 1 ≤ packet_limit → a * 256 + b + 1 ≤ length s - 2 → SizeTold s (size.Size (a * 256 + b + 1))
+      → a * 256 + b + 1 ≤ packet_limit → a * 256 + b + 1 ≤ length s - 2 → SizeTold s (Ok (a * 256 + b + 1))
   unfolding size_at
   size-read two high low few all =
       let h : get_or s 0 0 * 256 + get_or s 1 0 + 1 ≤ packet_limit = rw (high.same, low.same) at few in
@@ -103,7 +101,7 @@ unfolding size_at
 size-near s x e =
     let n = get_or s 0 0 * 256 + get_or s 1 0 + 1 in
     by n (ltb (length s) 2) (ltb packet_limit n) (ltb (length s - 2) n) e where
-      place_is : {A : Type 0} (p n : ℕ) → ◌≡◌ {A = Answer A} (refuse_at p n) (refused x) → p ≡ x.place
+      place_is : {A : Type 0} (p : ℕ) (n : Reason) → ◌≡◌ {A = Answer A} (refuse_at p n) (refused x) → p ≡ x.place
       place_is p n e = ap (λ (y : Refusal). y.place) (refused-same e)
 
       by : (n : ℕ) (a b c : Bool)

@@ -1,5 +1,6 @@
 -- One law for each answer of `read`, in the words of the code: what its items' readers answered gives the promise. Assumes
 -- nothing.
+use Rattle.std.proofs.Common.{Result, Ok, Err}
 use Prim.Native.Nat.{ℕ, ◌≤◌, ◌<◌}
 use mathlib.Core.Path.{◌≡◌, refl, sym, ap, ap₂, ◌∙◌}
 use mathlib.Core.Bool.{Bool, true, false, cond}
@@ -17,109 +18,94 @@ use Rattle.packet.specs.Packet.{fields_limit, PacketAnswer, may_follow, read_pac
 use Rattle.format.specs.Places.{Place, edge_at}
 use Rattle.packet_laws.specs.Octets.{first_at, count_at, FieldsAnswer, fields_at, end_at, packet_by_octets}
 use Rattle.packet.specs.Promise.{PacketTold, packet_outcome, packet_read, padded_fields}
-use Rattle.packet_reader.specs.Items.{InPacket, OctetIn, EdgeTold, edge_outcome, FirstTold, CountTold, FieldsTold, EndTold, NamedTold}
-use Rattle.packet_reader.specs.Items.{first_outcome, count_outcome, fields_read, end_outcome}
+use Rattle.packet_reader.specs.Items.{InPacket, OctetIn, EdgeTold, FirstTold, CountTold, FieldsTold, EndTold, NamedTold}
+use Rattle.packet_reader.specs.Items.{outcome, first_outcome, count_outcome, fields_read}
 use Rattle.packet.specs.declared.types.Field.{Field}
 use Rattle.packet.specs.declared.types.PacketKind.{PacketKind}
 use Rattle.packet.specs.declared.types.Named.{Named}
 use Rattle.packet.specs.declared.types.Ending.{Ending}
 use Rattle.packet.specs.declared.types.PacketRead.{PacketRead}
-use Rattle.packet_reader.specs.declared.places.EdgeRead.{EdgeRead}
-use Rattle.packet_reader.specs.declared.items.FirstRead.{FirstRead}
-use Rattle.packet_reader.specs.declared.items.CountRead.{CountRead}
+use Rattle.packet_reader.specs.declared.items.First.{First}
 use Rattle.packet_reader.specs.declared.reader.FieldsRead.{FieldsRead}
-use Rattle.packet_reader.specs.declared.reader.EndRead.{EndRead}
-use Rattle.packet.specs.declared.types.PacketReading.TheVariants as reading
-use Rattle.packet_reader.specs.declared.places.EdgeRead.TheVariants as edge
-use Rattle.packet_reader.specs.declared.items.FirstRead.TheVariants as first
-use Rattle.packet_reader.specs.declared.items.CountRead.TheVariants as count
-use Rattle.packet_reader.specs.declared.reader.FieldsEnd.TheVariants as end
-use Rattle.packet_reader.specs.declared.reader.EndRead.TheVariants as ends
 use Rattle.packet_reader.proofs.ReadPlaces.{edge-is, edge-within}
 use Rattle.packet_laws.proofs.Laws.{narrow, first_ends, read_at, rest, rest-is, read-outcome, fields-inside, count-limit, count-within}
 
 -- ---- from the items' answers to the definitions
 module _ {named : Named} {s : List ℕ} where
-  first-is : {r : FirstRead} {k : PacketKind} {v at : ℕ} {p : Bool} → FirstTold named s r → r ≡ first.First k v p at
-      → first_at (edition_of named) s ≡ done (record { first = record { kind = k; value = v; present = p }; octets = at })
+  first-is : {r : Result First Refusal} {x : First} → FirstTold named s r → r ≡ Ok x
+      → first_at (edition_of named) s
+      ≡ done (record { first = record { kind = x.kind; value = x.value; present = x.present }; octets = x.octets })
   first-is told is = sym told.answer ∙ ap first_outcome is
 
-  pub first-within : {r : FirstRead} {k : PacketKind} {v at : ℕ} {p : Bool} → length s ≤ packet_limit → FirstTold named s r
-      → r ≡ first.First k v p at
-      → OctetIn s at
+  pub first-within : {r : Result First Refusal} {x : First} → length s ≤ packet_limit → FirstTold named s r → r ≡ Ok x
+      → OctetIn s x.octets
   first-within fits told is = record { few = fits; here = first_ends (edition_of named) s _ (first-is told is) }
 
-module _ {s : List ℕ} {at : ℕ} {p : Bool} {c : CountRead} {n from : ℕ} (told : CountTold s at p c) (is : c ≡ count.Count n from) where
+module _ {s : List ℕ} {at : ℕ} {p : Bool} {c : Result (ℕ × ℕ) Refusal} {n from : ℕ} (told : CountTold s at p c) (is : c ≡ Ok (n, from)) where
   count-is : count_at s at p ≡ done (record { value = n; next = from })
   count-is = sym told.answer ∙ ap count_outcome is
 
   pub count-few : n ≤ fields_limit
   count-few = count-limit s at p _ count-is
 
-  pub count-inside : {named : Named} {f : FirstRead} {k : PacketKind} {v : ℕ} → length s ≤ packet_limit → FirstTold named s f
-      → f ≡ first.First k v p at
-      → InPacket s from
-  count-inside fits first first-was =
-      record { few = fits; here = count-within s at p _ (first-within fits first first-was).here count-is }
+  pub count-inside : OctetIn s at → InPacket s from
+  count-inside first = record { few = first.few; here = count-within s at p _ first.here count-is }
 
--- fields that were read, from the answer and its end
-record AllRead (named : Named) (n : ℕ) (s : List ℕ) (at m : ℕ) (r : FieldsRead) : Type 0 where
+-- fields that were read, from the answer
+record AllRead (named : Named) (n : ℕ) (s : List ℕ) (at : ℕ) (r : FieldsRead) : Type 0 where
   fields : List Field
-  was : fields_at (edition_of named) n s at ≡ done (record { fields = fields; next = m })
+  was : fields_at (edition_of named) n s at ≡ done (record { fields = fields; next = r.next })
   here : r.fields ≡ padded_fields fields
 
 module _ (named : Named) (n : ℕ) (s : List ℕ) (at : ℕ) where
-  all_read : (m : ℕ) (r : FieldsRead) → FieldsTold named n s at r → r.end ≡ end.Next m → AllRead named n s at m r
-  all_read m r told next = by (fields_at (edition_of named) n s at) refl told.answer where
-    by : (x : Answer FieldsAnswer) → fields_at (edition_of named) n s at ≡ x → r ≡ fields_read x → AllRead named n s at m r
-    by (done a) e is =
-        let same : a.next ≡ m = cc (ap (λ (q : FieldsRead). q.end) is, next) in
+  all_read : (x : FieldsRead) (r : Result FieldsRead Refusal) → FieldsTold named n s at r → r ≡ Ok x → AllRead named n s at x
+  all_read x r told is = by (fields_at (edition_of named) n s at) refl told.answer where
+    by : (y : Answer FieldsAnswer) → fields_at (edition_of named) n s at ≡ y → r ≡ fields_read y → AllRead named n s at x
+    by (done a) e read =
+        let same : x ≡ record { fields = padded_fields a.fields; next = a.next } = cc in
         record {
           fields = a.fields;
-          was = e ∙ ap (λ (k : ℕ). done (record { fields = a.fields; next = k })) same;
-          here = ap (λ (q : FieldsRead). q.fields) is;
+          was = e ∙ ap (λ (k : ℕ). done (record { fields = a.fields; next = k })) (sym (ap (λ (q : FieldsRead). q.next) same));
+          here = ap (λ (q : FieldsRead). q.fields) same;
         }
-    by (refused x) e is = let z : ◌≡◌ {A = ℕ} 0 1 = cc (ap (λ (q : FieldsRead). q.end) is, next) in absurd (omega arith)
+    by (refused x) e read = let z : ◌≡◌ {A = ℕ} 0 1 = cc in absurd (omega arith)
 
-  fields-refused : (x : Refusal) (r : FieldsRead) → FieldsTold named n s at r → r.end ≡ end.Refused x
+  fields-refused : (x : Refusal) (r : Result FieldsRead Refusal) → FieldsTold named n s at r → r ≡ Err x
       → fields_at (edition_of named) n s at ≡ refused x
-  fields-refused x r told next = by (fields_at (edition_of named) n s at) refl told.answer where
+  fields-refused x r told is = by (fields_at (edition_of named) n s at) refl told.answer where
     by : (y : Answer FieldsAnswer) → fields_at (edition_of named) n s at ≡ y → r ≡ fields_read y
         → fields_at (edition_of named) n s at ≡ refused x
-    by (done a) e is = let z : ◌≡◌ {A = ℕ} 0 1 = cc (ap (λ (q : FieldsRead). q.end) is, next) in absurd (omega arith)
-    by (refused y) e is =
-        let same : y ≡ x = cc (ap (λ (q : FieldsRead). q.end) is, next) in
+    by (done a) e read = let z : ◌≡◌ {A = ℕ} 0 1 = cc in absurd (omega arith)
+    by (refused y) e read =
+        let same : y ≡ x = cc in
         e ∙ ap (λ (q : Refusal). refused q) same
 
-pub told_of : (named : Named) (e : Ending) (s : List ℕ) (r : PacketRead) (x : Answer PacketAnswer)
+pub told_of : (named : Named) (e : Ending) (s : List ℕ) (r : Result PacketRead Refusal) (x : Answer PacketAnswer)
     → packet_by_octets (edition_of named) e s ≡ x → r ≡ packet_read x → NamedTold named e s r
 told_of named e s r x is image =
     let so = read_at (edition_of named) (narrow named) e s ∙ is in
     record { told = record { answer = ap packet_outcome image ∙ read-outcome x ∙ sym so; whole = image ∙ ap packet_read (sym so) } }
 
 -- ---- the answers of `read`
-abbrev answered : PacketKind → ℕ → ℕ → List Field → PacketRead
-answered k v n fields = record { reading = reading.Packet k v n; fields = fields }
-
 -- fields that read end inside the octets
-pub packet-inside : {named : Named} {s : List ℕ} {n from m : ℕ} {all : FieldsRead} → InPacket s from
-    → FieldsTold named n s from all → all.end ≡ end.Next m → InPacket s m
-packet-inside {named} {s} {n} {from} {m} {all} inside read ends =
-    let a = all_read named n s from m all read ends in
+pub packet-inside : {named : Named} {s : List ℕ} {n from : ℕ} {all : Result FieldsRead Refusal} {x : FieldsRead} → InPacket s from
+    → FieldsTold named n s from all → all ≡ Ok x → InPacket s x.next
+packet-inside {named} {s} {n} {from} {all} {x} inside read is =
+    let a = all_read named n s from x all read is in
     record { few = inside.few; here = (fields-inside (edition_of named) n s from _ inside.here a.was).next }
 
 -- ---- the end
-module _ {s : List ℕ} {p : Place} {r : EdgeRead} (told : EdgeTold s p r) where
-  pub end-spare : {e : Ending} {x : Refusal} → r ≡ edge.Refused x → EndTold e s p (ends.Refused x)
+module _ {s : List ℕ} {p : Place} {r : Result ℕ Refusal} (told : EdgeTold s p r) where
+  pub end-spare : {e : Ending} {x : Refusal} → r ≡ Err x → EndTold e s p (Err x)
   unfolding end_at
-  end-spare is = record { answer = rw (sym told.answer ∙ ap edge_outcome is) }
+  end-spare is = record { answer = rw (sym told.answer ∙ ap (outcome (λ (n : ℕ). n)) is) }
 
-  module _ {at : ℕ} {e : Ending} {b : Bool} (is : r ≡ edge.Edge at) (follows : b ≡ may_follow e (rest at s)) where
-    pub end-left : {x : Refusal} → b ≡ false → RefusalPlaced left_over at x → EndTold e s p (ends.Refused x)
+  module _ {at : ℕ} {e : Ending} {b : Bool} (is : r ≡ Ok at) (follows : b ≡ may_follow e (rest at s)) where
+    pub end-left : {x : Refusal} → b ≡ false → RefusalPlaced left_over at x → EndTold e s p (Err x)
     unfolding end_at
     end-left not_so made = record { answer = rw (edge-is told is, ← rest-is at s, ← follows, not_so, made.answer) }
 
-    pub end-met : b ≡ true → EndTold e s p (ends.Ends)
+    pub end-met : b ≡ true → EndTold e s p (Ok tt)
     unfolding end_at
     end-met so = record { answer = rw (edge-is told is, ← rest-is at s, ← follows, so) }
 
@@ -141,59 +127,59 @@ end_same e s p a = by (edge_at s p) where
   by (refused r) = refl
 
 module _ {named : Named} {e : Ending} {s : List ℕ} where
-  pub packet-over : {x : Refusal} {r : PacketRead} → packet_limit < length s → RefusalMade outside_sizes x → r ≡ packet_read (refused x)
-      → NamedTold named e s r
+  pub packet-over : {x : Refusal} → packet_limit < length s → RefusalMade outside_sizes x → NamedTold named e s (Err x)
   unfolding packet_by_octets
-  packet-over {x} {r} over made is = told_of named e s r (refused x) (rw (lt-ltb packet_limit (length s) over, made.answer)) is
+  packet-over {x} over made = told_of named e s (Err x) (refused x) (rw (lt-ltb packet_limit (length s) over, made.answer)) refl
 
-  module _ {f : FirstRead} (fits : length s ≤ packet_limit) (told : FirstTold named s f) where
-    pub packet-first : {x : Refusal} {r : PacketRead} → f ≡ first.Refused x → r ≡ packet_read (refused x) → NamedTold named e s r
+  module _ {f : Result First Refusal} (fits : length s ≤ packet_limit) (told : FirstTold named s f) where
+    pub packet-first : {x : Refusal} → f ≡ Err x → NamedTold named e s (Err x)
     unfolding packet_by_octets
-    packet-first {x} {r} is image =
-        told_of named e s r (refused x) (rw (le-ltb packet_limit (length s) fits, sym told.answer ∙ ap first_outcome is)) image
+    packet-first {x} is =
+        told_of named e s (Err x) (refused x) (rw (le-ltb packet_limit (length s) fits, sym told.answer ∙ ap first_outcome is)) refl
 
-    module _ {k : PacketKind} {v o : ℕ} {p : Bool} {c : CountRead} (is : f ≡ first.First k v p o) (counted : CountTold s o p c) where
-      pub packet-count : {x : Refusal} {r : PacketRead} → c ≡ count.Refused x → r ≡ packet_read (refused x) → NamedTold named e s r
+    module _ {y : First} {c : Result (ℕ × ℕ) Refusal} (is : f ≡ Ok y) (counted : CountTold s y.octets y.present c) where
+      pub packet-count : {x : Refusal} → c ≡ Err x → NamedTold named e s (Err x)
       unfolding packet_by_octets
-      packet-count {x} {r} count_is image =
-          told_of named e s r (refused x)
+      packet-count {x} count_is =
+          told_of named e s (Err x) (refused x)
           (rw (le-ltb packet_limit (length s) fits, first-is told is, sym counted.answer ∙ ap count_outcome count_is))
-          image
+          refl
 
-      module _ {n at : ℕ} {all : FieldsRead} (count_is : c ≡ count.Count n at) (read : FieldsTold named n s at all) where
-        pub packet-fields : {x : Refusal} {r : PacketRead} → all.end ≡ end.Refused x → r ≡ packet_read (refused x)
-            → NamedTold named e s r
+      module _ {n at : ℕ} {all : Result FieldsRead Refusal} (count_is : c ≡ Ok (n, at)) (read : FieldsTold named n s at all) where
+        pub packet-fields : {x : Refusal} → all ≡ Err x → NamedTold named e s (Err x)
         unfolding packet_by_octets
-        packet-fields {x} {r} ends image =
-            told_of named e s r (refused x)
+        packet-fields {x} ends =
+            told_of named e s (Err x) (refused x)
             (rw
             (le-ltb packet_limit (length s) fits, first-is told is, count-is counted count_is, fields-refused named n s at x all read ends))
-            image
+            refl
 
-        module _ {m : ℕ} {d : EndRead} (next : all.end ≡ end.Next m) (ended : EndTold e s m d) where
-          pub packet-left : {x : Refusal} {r : PacketRead} → d ≡ ends.Refused x → r ≡ packet_read (refused x) → NamedTold named e s r
+        module _ {z : FieldsRead} {d : Result (Unit {0}) Refusal} (next : all ≡ Ok z) (ended : EndTold e s z.next d) where
+          pub packet-left : {x : Refusal} → d ≡ Err x → NamedTold named e s (Err x)
           unfolding packet_by_octets
-          packet-left {x} {r} end_is image =
-              let a = all_read named n s at m all read next in
-              told_of named e s r (refused x)
+          packet-left {x} end_is =
+              let a = all_read named n s at z all read next in
+              told_of named e s (Err x) (refused x)
               (rw (le-ltb packet_limit (length s) fits, first-is told is, count-is counted count_is, a.was)
-              (end_same e s m _ ∙ ap (mapped _) (sym ended.answer ∙ ap end_outcome end_is)))
-              image
+              (end_same e s z.next _ ∙ ap (mapped _) (sym ended.answer ∙ ap (outcome (λ (u : Unit {0}). u)) end_is)))
+              refl
 
-          pub packet-read : d ≡ ends.Ends → NamedTold named e s (record { reading = reading.Packet k v n; fields = all.fields })
+          pub packet-is : {u : Unit {0}} → d ≡ Ok u
+              → NamedTold named e s (Ok (record { kind = y.kind; value = y.value; count = n; fields = z.fields }))
           unfolding packet_by_octets
-          packet-read end_is =
-              let a = all_read named n s at m all read next in
-              let inside = fields-inside (edition_of named) n s at _ (count-inside counted count_is fits told is).here a.was in
-              told_of named e s _ (done (record { kind = k; value = v; fields = a.fields }))
+          packet-is end_is =
+              let a = all_read named n s at z all read next in
+              let inside =
+              fields-inside (edition_of named) n s at _ (count-inside counted count_is (first-within fits told is)).here a.was
+              in
+              told_of named e s _ (done (record { kind = y.kind; value = y.value; fields = a.fields }))
               (rw (le-ltb packet_limit (length s) fits, first-is told is, count-is counted count_is, a.was)
-              (end_same e s m _ ∙ ap (mapped _) (sym ended.answer ∙ ap end_outcome end_is)))
-              (ap₂ (answered k v) (sym inside.many) a.here)
+              (end_same e s z.next _ ∙ ap (mapped _) (sym ended.answer ∙ ap (outcome (λ (u : Unit {0}). u)) end_is)))
+              (ap₂ (λ (k : ℕ) (l : List Field). Ok (record { kind = y.kind; value = y.value; count = k; fields = l })) (sym inside.many) a.here)
 
 -- ---- an octet that names no edition
-pub packet-other : {x : Refusal} {r : PacketRead} → RefusalMade wrong_settings x → r ≡ packet_read (refused x)
-    → PacketTold (refuse wrong_settings) r
-packet-other made image = record { answer = rw (image, made.answer); whole = rw (image, made.answer) }
+pub packet-other : {x : Refusal} → RefusalMade wrong_settings x → PacketTold (refuse wrong_settings) (Err x)
+packet-other made = record { answer = rw made.answer; whole = rw made.answer }
 
 pub ruleset packets =
-    (first-within, count-few, count-inside, packet-inside, packet-over, packet-first, packet-count, packet-fields, packet-left, packet-read)
+    (first-within, count-few, count-inside, packet-inside, packet-over, packet-first, packet-count, packet-fields, packet-left, packet-is)

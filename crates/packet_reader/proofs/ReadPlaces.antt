@@ -1,5 +1,6 @@
 -- One law for each answer of the functions that read at a place in bits, in the words of the code: the tests that led there
 -- give the promise. Assumes nothing.
+use Rattle.std.proofs.Common.{Result, Ok, Err}
 use Prim.Native.Nat.{ℕ, ◌+◌, ◌-◌, ◌*◌, ◌/◌, ◌%◌, ◌^◌, ◌≤◌, ◌<◌}
 use mathlib.Core.Path.{◌≡◌, sym, ap, ap₂, ◌∙◌}
 use mathlib.Core.List.{List}
@@ -15,9 +16,7 @@ use Rattle.length.specs.Promise.{Octet, RefusalPlaced}
 use Rattle.length.specs.declared.Refusal.{Refusal}
 use Rattle.packet_laws.proofs.Laws.{edge-inside}
 use Rattle.format.specs.Places.{Place, edge_at}
-use Rattle.packet_reader.specs.Items.{InPacket, Power, OctetAt, BitTold, BitsTold, EdgeTold, edge_outcome}
-use Rattle.packet_reader.specs.declared.places.EdgeRead.{EdgeRead}
-use Rattle.packet_reader.specs.declared.places.EdgeRead.TheVariants as edge
+use Rattle.packet_reader.specs.Items.{InPacket, Power, OctetAt, BitTold, BitsTold, EdgeTold, outcome}
 
 pub power-told : {n : ℕ} → n ≤ 8 → Power n (1 * 2 ^ n % 2 ^ 64)
 power-told {n} few =
@@ -49,22 +48,22 @@ bits-told {s} {n} {p} {a} {b} first second values =
     record { answer = ap₂ (λ (x y : ℕ). x / 2 ^ (16 - (p % 8 + n)) % y) window values.is }
 
 module _ {s : List ℕ} {p a v : ℕ} (octet : OctetAt s (p / 8) a) (values : Power ((8 - p % 8) % 8) v) where
-  pub edge-set : {r : Refusal} → 0 < a % v → RefusalPlaced spare_bit (p / 8) r → EdgeTold s p (edge.Refused r)
+  pub edge-set : {r : Refusal} → 0 < a % v → RefusalPlaced spare_bit (p / 8) r → EdgeTold s p (Err r)
   unfolding edge_at
   edge-set set made =
       let h : 0 < get_or s (p / 8) 0 % 2 ^ ((8 - p % 8) % 8) = rw (octet.same, values.is) at set in
       record { answer = rw (made.answer, lt-ltb 0 _ h) }
 
-  pub edge-told : a % v ≤ 0 → EdgeTold s p (edge.Edge ((p + 7) / 8))
+  pub edge-told : a % v ≤ 0 → EdgeTold s p (Ok ((p + 7) / 8))
   unfolding edge_at
   edge-told zeros =
       let h : get_or s (p / 8) 0 % 2 ^ ((8 - p % 8) % 8) ≤ 0 = rw (octet.same, values.is) at zeros in
       record { answer = rw (le-ltb 0 _ h) }
 
 -- what an edge that was read says
-module _ {s : List ℕ} {p : Place} {r : EdgeRead} {at : ℕ} (told : EdgeTold s p r) (is : r ≡ edge.Edge at) where
+module _ {s : List ℕ} {p : Place} {r : Result ℕ Refusal} {at : ℕ} (told : EdgeTold s p r) (is : r ≡ Ok at) where
   pub edge-is : edge_at s p ≡ done at
-  edge-is = sym told.answer ∙ ap edge_outcome is
+  edge-is = sym told.answer ∙ ap (outcome (λ (n : ℕ). n)) is
 
   pub edge-within : InPacket s p → at ≤ length s
   edge-within inside = edge-inside s p at inside.here edge-is

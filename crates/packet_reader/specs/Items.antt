@@ -1,6 +1,6 @@
 -- What this crate's functions owe each other: the answer of each item reader, as `Octets` of `packet_laws` says, up to the packet in one
 -- edition (`NamedTold`), which the second reader owes too. What `read` promises its caller is in `packet` (`ReadBy`). Definitions only.
-use Rattle.std.specs.Prelude.{ℕ, ◌+◌, ◌*◌, ◌^◌, ◌≤◌, ◌<◌, ◌≡◌, Bool, true, cond, List, [], length, get_or}
+use Rattle.std.specs.Prelude.{Result, Ok, Err, ℕ, ◌+◌, ◌*◌, ◌^◌, ◌≤◌, ◌<◌, ◌≡◌, Bool, true, cond, List, [], length, get_or}
 use Rattle.length.specs.Refusals.{wrong_data}
 use Rattle.length.specs.Answers.{Answer, done, refused, refuse, refuse_at, ◌>>=◌}
 use Rattle.format.specs.Places.{Place, bits_at, edge_at}
@@ -16,24 +16,16 @@ use Rattle.packet.specs.declared.types.Ending.{Ending}
 use Rattle.packet.specs.declared.types.PacketKind.{PacketKind}
 use Rattle.packet.specs.declared.types.Named.{Named}
 use Rattle.packet.specs.declared.types.PacketRead.{PacketRead}
-use Rattle.packet_reader.specs.declared.places.EdgeRead.{EdgeRead}
-use Rattle.packet_reader.specs.declared.places.EdgeRead.TheVariants as edge
-use Rattle.packet_reader.specs.declared.values.ValueRead.{ValueRead}
-use Rattle.packet_reader.specs.declared.values.ValueRead.TheVariants as value
-use Rattle.packet_reader.specs.declared.items.FirstRead.{FirstRead}
-use Rattle.packet_reader.specs.declared.items.FirstRead.TheVariants as first
-use Rattle.packet_reader.specs.declared.items.CountRead.{CountRead}
-use Rattle.packet_reader.specs.declared.items.CountRead.TheVariants as count
-use Rattle.packet_reader.specs.declared.items.HeaderRead.{HeaderRead}
-use Rattle.packet_reader.specs.declared.items.HeaderRead.TheVariants as header
-use Rattle.packet_reader.specs.declared.items.SizeRead.{SizeRead}
-use Rattle.packet_reader.specs.declared.items.SizeRead.TheVariants as size
-use Rattle.packet_reader.specs.declared.items.FieldRead.{FieldRead}
-use Rattle.packet_reader.specs.declared.items.FieldRead.TheVariants as field
-use Rattle.packet_reader.specs.declared.reader.FieldsEnd.TheVariants as end
+use Rattle.packet.specs.declared.types.Field.{Field}
+use Rattle.length.specs.declared.Refusal.{Refusal}
+use Rattle.packet_reader.specs.declared.items.First.{First}
+use Rattle.packet_reader.specs.declared.items.Header.{Header}
 use Rattle.packet_reader.specs.declared.reader.FieldsRead.{FieldsRead}
-use Rattle.packet_reader.specs.declared.reader.EndRead.{EndRead}
-use Rattle.packet_reader.specs.declared.reader.EndRead.TheVariants as ends
+
+-- what a reader of an item returned, with what it read in the words of the definitions
+abbrev pub outcome : {A B : Type 0} → (A → B) → Result A Refusal → Answer B
+outcome said (Ok a) = done (said a)
+outcome said (Err r) = refused r
 
 -- ---- places
 -- a place inside the octets of a packet, or at their end
@@ -67,36 +59,31 @@ pub record BitTold (octets : List ℕ) (p : Place) (r : Bool) : Type 0 where
 pub record BitsTold (n : ℕ) (octets : List ℕ) (p : Place) (r : ℕ) : Type 0 where
   pub answer : r ≡ bits_at n octets p
 
-abbrev pub edge_outcome : EdgeRead → Answer ℕ
-edge_outcome (edge.Edge at) = done at
-edge_outcome (edge.Refused r) = refused r
-
-pub record EdgeTold (octets : List ℕ) (p : Place) (r : EdgeRead) : Type 0 where
-  pub answer : edge_outcome r ≡ edge_at octets p
+pub record EdgeTold (octets : List ℕ) (p : Place) (r : Result ℕ Refusal) : Type 0 where
+  pub answer : outcome (λ at. at) r ≡ edge_at octets p
 
 -- ---- a value
-abbrev pub value_outcome : ValueRead → Answer Value
-value_outcome (value.Value v next) = done (record { value = v; next = next })
-value_outcome (value.Refused r) = refused r
+abbrev pub value_outcome : Result (ℕ × ℕ) Refusal → Answer Value
+value_outcome r = outcome (λ x. record { value = x.0; next = x.1 }) r
 
 pub record PlainTold (e : Enumerated) (r : ℕ) : Type 0 where
   pub narrow : Narrow e
   pub few : r ≤ 7
   pub answer : r ≡ plain_width e
 
-pub record RootTold (e : Enumerated) (item : ℕ) (octets : List ℕ) (p : Place) (r : ValueRead) : Type 0 where
+pub record RootTold (e : Enumerated) (item : ℕ) (octets : List ℕ) (p : Place) (r : Result (ℕ × ℕ) Refusal) : Type 0 where
   pub answer : value_outcome r ≡ root_at e item octets p
 
-pub record AddedTold (e : Enumerated) (item : ℕ) (octets : List ℕ) (p : Place) (r : ValueRead) : Type 0 where
+pub record AddedTold (e : Enumerated) (item : ℕ) (octets : List ℕ) (p : Place) (r : Result (ℕ × ℕ) Refusal) : Type 0 where
   pub answer : value_outcome r ≡ added_at e item octets p
 
-pub record ValueTold (e : Enumerated) (item : ℕ) (octets : List ℕ) (p : Place) (r : ValueRead) : Type 0 where
+pub record ValueTold (e : Enumerated) (item : ℕ) (octets : List ℕ) (p : Place) (r : Result (ℕ × ℕ) Refusal) : Type 0 where
   pub answer : value_outcome r ≡ value_at e item octets p
 
 -- ---- items
-abbrev pub first_outcome : FirstRead → Answer FirstAnswer
-first_outcome (first.First k v p at) = done (record { first = record { kind = k; value = v; present = p }; octets = at })
-first_outcome (first.Refused r) = refused r
+abbrev pub first_outcome : Result First Refusal → Answer FirstAnswer
+first_outcome r =
+    outcome (λ x. record { first = record { kind = x.kind; value = x.value; present = x.present }; octets = x.octets }) r
 
 -- what follows the first value
 abbrev pub after_first : List ℕ → PacketKind → Value → Answer FirstAnswer
@@ -106,7 +93,7 @@ after_first input kind v = do
       (done (record { first = record { kind = kind; value = v.value; present = bit_set_at input 0 }; octets = at }))
       (refuse wrong_data)
 
-pub record AfterFirst (octets : List ℕ) (kind : PacketKind) (value : ℕ) (p : Place) (r : FirstRead) : Type 0 where
+pub record AfterFirst (octets : List ℕ) (kind : PacketKind) (value : ℕ) (p : Place) (r : Result First Refusal) : Type 0 where
   pub answer : first_outcome r ≡ after_first octets kind (record { value = value; next = p })
 
 -- the kind of the first item of a packet
@@ -114,19 +101,17 @@ pub record FirstHere (octets : List ℕ) (kind : PacketKind) : Type 0 where
   pub few : length octets ≤ packet_limit
   pub is : kind ≡ kind_of octets
 
-pub record FirstTold (named : Named) (octets : List ℕ) (r : FirstRead) : Type 0 where
+pub record FirstTold (named : Named) (octets : List ℕ) (r : Result First Refusal) : Type 0 where
   pub answer : first_outcome r ≡ first_at (edition_of named) octets
 
-abbrev pub count_outcome : CountRead → Answer Count
-count_outcome (count.Count n next) = done (record { value = n; next = next })
-count_outcome (count.Refused r) = refused r
+abbrev pub count_outcome : Result (ℕ × ℕ) Refusal → Answer Count
+count_outcome r = outcome (λ x. record { value = x.0; next = x.1 }) r
 
-pub record CountTold (octets : List ℕ) (at : ℕ) (present : Bool) (r : CountRead) : Type 0 where
+pub record CountTold (octets : List ℕ) (at : ℕ) (present : Bool) (r : Result (ℕ × ℕ) Refusal) : Type 0 where
   pub answer : count_outcome r ≡ count_at octets at present
 
-abbrev pub header_outcome : HeaderRead → Answer HeaderAnswer
-header_outcome (header.Header k p next) = done (record { header = record { type = k; present = p }; next = next })
-header_outcome (header.Refused r) = refused r
+abbrev pub header_outcome : Result Header Refusal → Answer HeaderAnswer
+header_outcome r = outcome (λ x. record { header = record { type = x.kind; present = x.present }; next = x.next }) r
 
 -- what follows a field's type
 abbrev pub after_type : ℕ → ℕ → Bool → Place → Answer HeaderAnswer
@@ -134,45 +119,36 @@ after_type item kind present p =
     cond (allows (carries kind) present) (done (record { header = record { type = kind; present = present }; next = p }))
     (refuse_at item wrong_data)
 
-pub record AfterType (item kind : ℕ) (present : Bool) (p : Place) (r : HeaderRead) : Type 0 where
+pub record AfterType (item kind : ℕ) (present : Bool) (p : Place) (r : Result Header Refusal) : Type 0 where
   pub answer : header_outcome r ≡ after_type item kind present p
 
-pub record HeaderTold (named : Named) (octets : List ℕ) (p : Place) (r : HeaderRead) : Type 0 where
+pub record HeaderTold (named : Named) (octets : List ℕ) (p : Place) (r : Result Header Refusal) : Type 0 where
   pub answer : header_outcome r ≡ header_at (edition_of named) octets p
 
-abbrev pub size_outcome : SizeRead → Answer ℕ
-size_outcome (size.Size n) = done n
-size_outcome (size.Refused r) = refused r
+pub record SizeTold (octets : List ℕ) (r : Result ℕ Refusal) : Type 0 where
+  pub answer : outcome (λ n. n) r ≡ size_at octets
 
-pub record SizeTold (octets : List ℕ) (r : SizeRead) : Type 0 where
-  pub answer : size_outcome r ≡ size_at octets
-
-abbrev pub field_outcome : FieldRead → Answer FieldAnswer
-field_outcome (field.Field f next) = done (record { field = f; next = next })
-field_outcome (field.Refused r) = refused r
+abbrev pub field_outcome : Result (Field × ℕ) Refusal → Answer FieldAnswer
+field_outcome r = outcome (λ x. record { field = x.0; next = x.1 }) r
 
 -- what follows a header with data
-pub record DataTold (octets : List ℕ) (kind : ℕ) (p : Place) (r : FieldRead) : Type 0 where
+pub record DataTold (octets : List ℕ) (kind : ℕ) (p : Place) (r : Result (Field × ℕ) Refusal) : Type 0 where
   pub answer : field_outcome r ≡ after_header octets (record { header = record { type = kind; present = true }; next = p })
 
-pub record FieldTold (named : Named) (octets : List ℕ) (p : Place) (r : FieldRead) : Type 0 where
+pub record FieldTold (named : Named) (octets : List ℕ) (p : Place) (r : Result (Field × ℕ) Refusal) : Type 0 where
   pub answer : field_outcome r ≡ field_at (edition_of named) octets p
 
 -- ---- all fields, and the end
-abbrev pub fields_read : Answer FieldsAnswer → FieldsRead
-fields_read (done a) = record { end = end.Next a.next; fields = padded_fields a.fields }
-fields_read (refused r) = record { end = end.Refused r; fields = padded_fields [] }
+abbrev pub fields_read : Answer FieldsAnswer → Result FieldsRead Refusal
+fields_read (done a) = Ok (record { fields = padded_fields a.fields; next = a.next })
+fields_read (refused r) = Err r
 
-pub record FieldsTold (named : Named) (count : ℕ) (octets : List ℕ) (p : Place) (r : FieldsRead) : Type 0 where
+pub record FieldsTold (named : Named) (count : ℕ) (octets : List ℕ) (p : Place) (r : Result FieldsRead Refusal) : Type 0 where
   pub answer : r ≡ fields_read (fields_at (edition_of named) count octets p)
 
-abbrev pub end_outcome : EndRead → Answer (Unit {0})
-end_outcome ends.Ends = done tt
-end_outcome (ends.Refused r) = refused r
-
-pub record EndTold (ending : Ending) (octets : List ℕ) (p : Place) (r : EndRead) : Type 0 where
-  pub answer : end_outcome r ≡ end_at ending octets p tt
+pub record EndTold (ending : Ending) (octets : List ℕ) (p : Place) (r : Result (Unit {0}) Refusal) : Type 0 where
+  pub answer : outcome (λ u. u) r ≡ end_at ending octets p tt
 
 -- ---- the packet, in the edition that was named
-pub record NamedTold (named : Named) (ending : Ending) (octets : List ℕ) (r : PacketRead) : Type 0 where
+pub record NamedTold (named : Named) (ending : Ending) (octets : List ℕ) (r : Result PacketRead Refusal) : Type 0 where
   pub told : PacketTold (read_packet (edition_of named) ending octets) r

@@ -7,45 +7,27 @@ ghost use Rattle.packet_laws.specs.Octets.{kind_of};
 ghost use Rattle.packet_reader.specs.Items.{InPacket, OctetIn, FirstHere, AfterFirst, FirstTold, CountTold};
 ghost use Rattle.packet_reader.specs.Items.{AfterType, HeaderTold, SizeTold, DataTold, FieldTold};
 
-use crate::places::{EdgeRead, bit, bits, power, read_edge};
-use crate::values::{ValueRead, plain_width, read_value};
+use crate::places::{bit, bits, power, read_edge};
+use crate::values::{plain_width, read_value};
 use datagram::Packet;
-use length::{Length, Refusal, wide};
+use length::{Reason, Refusal, wide};
 use packet::{Field, Named, PacketKind};
 
 // What the first item says, and the octets up to the edge after it.
 #[derive(Drop)]
-pub enum FirstRead {
-    First(PacketKind, u8, bool, usize),
-    Refused(Refusal),
-}
-
-// The count of fields, and the place after it.
-#[derive(Drop)]
-pub enum CountRead {
-    Count(usize, usize),
-    Refused(Refusal),
+pub struct First {
+    pub kind: PacketKind,
+    pub value: u8,
+    pub present: bool,
+    pub octets: usize,
 }
 
 // A field's type, whether it has data, and the place after the header.
 #[derive(Drop)]
-enum HeaderRead {
-    Header(u8, bool, usize),
-    Refused(Refusal),
-}
-
-// The length of a field's data.
-#[derive(Drop)]
-enum SizeRead {
-    Size(usize),
-    Refused(Refusal),
-}
-
-// A field, and the place after it.
-#[derive(Drop)]
-pub enum FieldRead {
-    Field(Field, usize),
-    Refused(Refusal),
+struct Header {
+    kind: u8,
+    present: bool,
+    next: usize,
 }
 
 // The kind that the second bit says (rule 6.1).
@@ -53,43 +35,44 @@ fn kind_of(octets: &[u8]) -> PacketKind
     ensures { result ≡ kind_of octets.now }
 {
     if bit(octets, 1) {
-        return PacketKind::Data;
+        PacketKind::Data
+    } else {
+        PacketKind::Indicator
     }
-    PacketKind::Indicator
 }
 
 // What follows the first value: zero bits to an octet edge, and whether fields may be present or not (rule 6.14).
-fn after_first(octets: &[u8], kind: PacketKind, value: u8, p: usize) -> FirstRead
+fn after_first(octets: &[u8], kind: PacketKind, value: u8, p: usize) -> Result<First, Refusal>
     requires { InPacket octets.now p }
     ensures { AfterFirst octets.now kind value p result }
 {
-    match read_edge(octets, p) {
-        EdgeRead::Refused(refusal) => FirstRead::Refused(refusal),
-        EdgeRead::Edge(at) => {
-            let present = bit(octets, 0);
-            if packet_rules::right_fields(kind, present) {
-                return FirstRead::First(kind, value, present, at);
-            }
-            FirstRead::Refused(Refusal::new(Refusal::WRONG_DATA))
-        }
+    let edge = read_edge(octets, p)?;
+    let present = bit(octets, 0);
+    if packet_rules::right_fields(kind, present) {
+        Ok(First {
+            kind,
+            value,
+            present,
+            octets: edge,
+        })
+    } else {
+        Err(Refusal::new(Reason::WrongData))
     }
 }
 
 // The first item of `octets`, its value part by part.
-fn first_by_parts(octets: &[u8], named: Named, kind: PacketKind) -> FirstRead
+fn first_by_parts(octets: &[u8], named: Named, kind: PacketKind) -> Result<First, Refusal>
     requires { FirstHere octets.now kind }
     ensures { FirstTold named octets.now result }
 {
     let e = packet_rules::values(named, kind);
-    match read_value(octets, 0, 2, e) {
-        ValueRead::Refused(refusal) => FirstRead::Refused(refusal),
-        ValueRead::Value(value, next) => after_first(octets, kind, value, next),
-    }
+    let (value, next) = read_value(octets, 0, 2, e)?;
+    after_first(octets, kind, value, next)
 }
 
 // The first item of `octets`: bits for fields present and for the kind, the value, and zero bits to an octet edge (rules 6.1 and 6.2). A
 // value before the extension mark is read in one step.
-pub fn read_first(octets: &[u8], named: Named) -> FirstRead
+pub fn read_first(octets: &[u8], named: Named) -> Result<First, Refusal>
     requires { length octets.now ≤ packet_limit }
     ensures { FirstTold named octets.now result }
 {
@@ -105,58 +88,52 @@ pub fn read_first(octets: &[u8], named: Named) -> FirstRead
     if e.assigned <= value {
         return first_by_parts(octets, named, kind);
     }
-    let octet = value as u8;
-    after_first(octets, kind, octet, next)
+    after_first(octets, kind, value as u8, next)
 }
 
-// The count of fields from the octet `at` on, where the first item says that they are present (rule 6.4).
-pub fn read_count(input: &[u8], at: usize, present: bool) -> CountRead
+// The count of fields from the octet `at` on, where the first item says that they are present (rule 6.4), and the place after it.
+// A refusal is passed up by a match, as its place moves (rule 30.4).
+pub fn read_count(input: &[u8], at: usize, present: bool) -> Result<(usize, usize), Refusal>
     requires { OctetIn input.now at }
     ensures { CountTold input.now at present result }
 {
     if !present {
-        let start = 8 * at;
-        return CountRead::Count(0, start);
+        return Ok((0, 8 * at));
     }
-    let found = length_code::read_within(&input[at..], Field::LEAST, Field::LIMIT);
-    let Length::Value(value, size) = found else {
-        let why = found.refusal();
-        return CountRead::Refused(why.further(at));
-    };
-    let octets = at + size;
-    let next = 8 * octets;
-    CountRead::Count(value, next)
+    match length_code::read_within(&input[at..], Field::LEAST, Field::LIMIT) {
+        Err(why) => Err(why.further(at)),
+        Ok(found) => Ok((found.value, 8 * (at + found.size))),
+    }
 }
 
 // What follows a field's type, which ends at a place: whether it may have data or not (rule 6.15). The header begins at the octet `item`.
-fn after_type(item: usize, kind: u8, present: bool, p: usize) -> HeaderRead
+fn after_type(item: usize, kind: u8, present: bool, p: usize) -> Result<Header, Refusal>
     ensures { AfterType item kind present p result }
 {
     if packet_rules::right_data(kind, present) {
-        return HeaderRead::Header(kind, present, p);
+        Ok(Header {
+            kind,
+            present,
+            next: p,
+        })
+    } else {
+        Err(Refusal::at(Reason::WrongData, item))
     }
-    HeaderRead::Refused(Refusal::at(Refusal::WRONG_DATA, item))
 }
 
 // The field header at a place, its type part by part.
-fn header_by_parts(octets: &[u8], p: usize, named: Named) -> HeaderRead
+fn header_by_parts(octets: &[u8], p: usize, named: Named) -> Result<Header, Refusal>
     requires { InPacket octets.now p }
     ensures { HeaderTold named octets.now p result }
 {
     let e = packet_rules::types(named);
-    let start = p + 1;
-    match read_value(octets, p / 8, start, e) {
-        ValueRead::Refused(refusal) => HeaderRead::Refused(refusal),
-        ValueRead::Value(kind, next) => {
-            let present = bit(octets, p);
-            after_type(p / 8, kind, present, next)
-        }
-    }
+    let (kind, next) = read_value(octets, p / 8, p + 1, e)?;
+    after_type(p / 8, kind, bit(octets, p), next)
 }
 
 // The field header at a place: a bit for data present, and the field's type (rules 6.7 and 7.9). A type before the extension mark is read
 // in one step with that bit.
-fn read_header(octets: &[u8], p: usize, named: Named) -> HeaderRead
+fn read_header(octets: &[u8], p: usize, named: Named) -> Result<Header, Refusal>
     requires { InPacket octets.now p }
     ensures { HeaderTold named octets.now p result }
 {
@@ -176,67 +153,56 @@ fn read_header(octets: &[u8], p: usize, named: Named) -> HeaderRead
     }
     let top = header >> below;
     let present = 0 < top % 2;
-    let kind = value as u8;
-    after_type(p / 8, kind, present, next)
+    after_type(p / 8, value as u8, present, next)
 }
 
 // The length of the data that begins after the two octets at the front of `octets` (rules 6.8 and 6.9).
-fn read_size(octets: &[u8]) -> SizeRead
+fn read_size(octets: &[u8]) -> Result<usize, Refusal>
     ensures { SizeTold octets.now result }
 {
     if octets.len() < 2 {
-        return SizeRead::Refused(Refusal::new(Refusal::ENDS_EARLY));
+        return Err(Refusal::new(Reason::EndsEarly));
     }
     let high = wide(octets[0]) * 256;
     let size = high + wide(octets[1]) + 1;
     if Packet::LIMIT < size {
-        return SizeRead::Refused(Refusal::new(Refusal::OUTSIDE_SIZES));
+        return Err(Refusal::new(Reason::OutsideSizes));
     }
     let left = octets.len() - 2;
     if left < size {
-        return SizeRead::Refused(Refusal::at(Refusal::ENDS_EARLY, 2));
+        return Err(Refusal::at(Reason::EndsEarly, 2));
     }
-    SizeRead::Size(size)
+    Ok(size)
 }
 
-// What follows a header with data: an octet edge, the data's length and the data (rule 6.8).
-fn read_data(octets: &[u8], kind: u8, p: usize) -> FieldRead
+// What follows a header with data: an octet edge, the data's length and the data (rule 6.8). The field, and the place after it.
+fn read_data(octets: &[u8], kind: u8, p: usize) -> Result<(Field, usize), Refusal>
     requires { InPacket octets.now p }
     ensures { DataTold octets.now kind p result }
 {
-    match read_edge(octets, p) {
-        EdgeRead::Refused(refusal) => FieldRead::Refused(refusal),
-        EdgeRead::Edge(at) => match read_size(&octets[at..]) {
-            SizeRead::Refused(refusal) => FieldRead::Refused(refusal.further(at)),
-            SizeRead::Size(size) => {
-                let start = at + 2;
-                let end = start + size;
-                let next = 8 * end;
-                FieldRead::Field(Field { kind, start, size }, next)
-            }
-        },
+    let at = read_edge(octets, p)?;
+    match read_size(&octets[at..]) {
+        Err(refusal) => Err(refusal.further(at)),
+        Ok(size) => {
+            let start = at + 2;
+            Ok((Field { kind, start, size }, 8 * (start + size)))
+        }
     }
 }
 
-// The field at a place: its header, and what follows it.
-pub fn read_field(octets: &[u8], p: usize, named: Named) -> FieldRead
+// The field at a place: its header, and what follows it. The field, and the place after it.
+pub fn read_field(octets: &[u8], p: usize, named: Named) -> Result<(Field, usize), Refusal>
     requires { InPacket octets.now p }
     ensures { FieldTold named octets.now p result }
 {
-    match read_header(octets, p, named) {
-        HeaderRead::Refused(refusal) => FieldRead::Refused(refusal),
-        HeaderRead::Header(kind, present, next) => {
-            if present {
-                return read_data(octets, kind, next);
-            }
-            FieldRead::Field(
-                Field {
-                    kind,
-                    start: 0,
-                    size: 0,
-                },
-                next,
-            )
-        }
+    let header = read_header(octets, p, named)?;
+    if header.present {
+        return read_data(octets, header.kind, header.next);
     }
+    let bare = Field {
+        kind: header.kind,
+        start: 0,
+        size: 0,
+    };
+    Ok((bare, header.next))
 }

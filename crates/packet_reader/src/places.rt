@@ -3,14 +3,7 @@
 ghost use Rattle.std.specs.Prelude.{◌≤◌};
 ghost use Rattle.packet_reader.specs.Items.{InPacket, Power, OctetAt, BitTold, BitsTold, EdgeTold};
 
-use length::{Refusal, wide};
-
-// How many octets there are up to an octet edge.
-#[derive(Drop)]
-pub enum EdgeRead {
-    Edge(usize),
-    Refused(Refusal),
-}
+use length::{Reason, Refusal, wide};
 
 // 2 to the power n.
 pub fn power(n: usize) -> usize
@@ -25,9 +18,10 @@ fn octet_at(octets: &[u8], at: usize) -> usize
     ensures { OctetAt octets.now at result }
 {
     if at < octets.len() {
-        return wide(octets[at]);
+        wide(octets[at])
+    } else {
+        0
     }
-    0
 }
 
 // Whether the bit at a place is set.
@@ -56,8 +50,8 @@ pub fn bits(octets: &[u8], n: usize, p: usize) -> usize
     front % values
 }
 
-// To an octet edge, by zero bits; a bit set there is 5 (rules 5.3 to 5.5).
-pub fn read_edge(octets: &[u8], p: usize) -> EdgeRead
+// How many octets there are up to an octet edge, by zero bits; a bit set there is 5 (rules 5.3 to 5.5).
+pub fn read_edge(octets: &[u8], p: usize) -> Result<usize, Refusal>
     requires { InPacket octets.now p }
     ensures { EdgeTold octets.now p result }
 {
@@ -65,8 +59,8 @@ pub fn read_edge(octets: &[u8], p: usize) -> EdgeRead
     let gap = (8 - p % 8) % 8;
     let values = power(gap);
     if 0 < octet % values {
-        return EdgeRead::Refused(Refusal::at(Refusal::SPARE_BIT, p / 8));
+        return Err(Refusal::at(Reason::SpareBit, p / 8));
     }
     let end = p + 7;
-    EdgeRead::Edge(end / 8)
+    Ok(end / 8)
 }

@@ -3,34 +3,19 @@
 ghost use Rattle.std.specs.Prelude.{◌≡◌, ◌≤◌, []};
 ghost use Rattle.packet.specs.Packet.{fields_limit, all_zero, may_follow};
 ghost use Rattle.packet_reader.specs.Items.{InPacket, FieldsTold, EndTold, NamedTold};
-ghost use Rattle.packet.specs.Promise.{ReadBy, packet_read, padded_fields};
-ghost use Rattle.length.specs.Answers as answers;
+ghost use Rattle.packet.specs.Promise.{ReadBy, padded_fields};
 
-use crate::items::{CountRead, FieldRead, FirstRead, read_count, read_field, read_first};
-use crate::places::{EdgeRead, read_edge};
+use crate::items::{read_count, read_field, read_first};
+use crate::places::read_edge;
 use datagram::Packet;
-use length::Refusal;
-use packet::{Choice, Ending, Field, Named, PacketRead, PacketReading};
+use length::{Reason, Refusal};
+use packet::{Ending, Field, Named, PacketRead};
 
-// The place after the last field.
-#[derive(Drop)]
-enum FieldsEnd {
-    Next(usize),
-    Refused(Refusal),
-}
-
-// The fields that were read, and where they end.
+// The fields that were read, and the place after the last one.
 #[derive(Drop)]
 struct FieldsRead {
-    end: FieldsEnd,
     fields: [Field; Field::LIMIT],
-}
-
-// Whether a packet ends as it must.
-#[derive(Drop)]
-enum EndRead {
-    Ends,
-    Refused(Refusal),
+    next: usize,
 }
 
 // As many places as a packet may have fields, all zero (rule 6.27).
@@ -45,48 +30,31 @@ pub fn no_fields() -> [Field; Field::LIMIT]
 }
 
 // `count` fields, the first of which begins at `from`.
-fn read_fields(octets: &[u8], count: usize, from: usize, named: Named) -> FieldsRead
+fn read_fields(
+    octets: &[u8],
+    count: usize,
+    from: usize,
+    named: Named,
+) -> Result<FieldsRead, Refusal>
     requires count_le_fields_limit { count ≤ fields_limit }
     requires in_packet { InPacket octets.now from }
     ensures { FieldsTold named count octets.now from result }
 {
     let mut fields = no_fields();
     let mut p = from;
-    let mut i: usize = 0;
-    while i < count {
-        match read_field(octets, p, named) {
-            FieldRead::Refused(refusal) => {
-                let none = no_fields();
-                return FieldsRead {
-                    end: FieldsEnd::Refused(refusal),
-                    fields: none,
-                };
-            }
-            FieldRead::Field(field, next) => {
-                fields[i] = field;
-                p = next;
-                i += 1;
-            }
-        }
+    for i in 0..count {
+        let (field, next) = read_field(octets, p, named)?;
+        fields[i] = field;
+        p = next;
     }
-    FieldsRead {
-        end: FieldsEnd::Next(p),
-        fields,
-    }
+    Ok(FieldsRead { fields, next: p })
 }
 
 // Whether `octets` holds zeros only.
 fn all_zero(octets: &[u8]) -> bool
     ensures { result ≡ all_zero octets.now }
 {
-    let mut i: usize = 0;
-    while i < octets.len() {
-        if 0 < octets[i] {
-            return false;
-        }
-        i += 1;
-    }
-    true
+    octets.iter().all(|&octet| octet == 0)
 }
 
 // Whether octets may be left behind the last field: none in a received or spare packet, zeros only in a repaired one (rules 6.11 and 6.12).
@@ -100,70 +68,44 @@ pub fn may_follow(left: &[u8], ending: Ending) -> bool
 }
 
 // The end of a packet: an octet edge, and behind it only what may follow (rules 5.2, 6.11 and 6.12).
-fn read_end(octets: &[u8], p: usize, ending: Ending) -> EndRead
+fn read_end(octets: &[u8], p: usize, ending: Ending) -> Result<(), Refusal>
     requires { InPacket octets.now p }
     ensures { EndTold ending octets.now p result }
 {
-    match read_edge(octets, p) {
-        EdgeRead::Refused(refusal) => EndRead::Refused(refusal),
-        EdgeRead::Edge(at) => {
-            if may_follow(&octets[at..], ending) {
-                return EndRead::Ends;
-            }
-            EndRead::Refused(Refusal::at(Refusal::LEFT_OVER, at))
-        }
+    let at = read_edge(octets, p)?;
+    if may_follow(&octets[at..], ending) {
+        Ok(())
+    } else {
+        Err(Refusal::at(Reason::LeftOver, at))
     }
 }
 
-// The result of a refused packet.
-pub fn refused(refusal: Refusal) -> PacketRead
-    ensures { result ≡ packet_read (answers.refused refusal) }
-{
-    let none = no_fields();
-    PacketRead {
-        reading: PacketReading::Refused(refusal),
-        fields: none,
-    }
-}
-
-// A packet's kind, value and fields in the named edition, or its first refusal: 4 over the packet limit, then reading order (rule 6.13).
-fn read_named(named: Named, octets: &[u8], ending: Ending) -> PacketRead
+// A packet in the named edition, or its first refusal: 4 over the packet limit, then reading order (rule 6.13).
+fn read_named(named: Named, octets: &[u8], ending: Ending) -> Result<PacketRead, Refusal>
     ensures { NamedTold named ending octets.now result }
 {
     if Packet::LIMIT < octets.len() {
-        return refused(Refusal::new(Refusal::OUTSIDE_SIZES));
+        return Err(Refusal::new(Reason::OutsideSizes));
     }
-    match read_first(octets, named) {
-        FirstRead::Refused(refusal) => refused(refusal),
-        FirstRead::First(kind, value, present, at) => match read_count(octets, at, present) {
-            CountRead::Refused(refusal) => refused(refusal),
-            CountRead::Count(count, from) => {
-                let all = read_fields(octets, count, from, named);
-                let end = all.end;
-                match end {
-                    FieldsEnd::Refused(refusal) => refused(refusal),
-                    FieldsEnd::Next(next) => match read_end(octets, next, ending) {
-                        EndRead::Refused(refusal) => refused(refusal),
-                        EndRead::Ends => {
-                            let fields = all.fields;
-                            PacketRead {
-                                reading: PacketReading::Packet { kind, value, count },
-                                fields,
-                            }
-                        }
-                    },
-                }
-            }
-        },
-    }
+    let first = read_first(octets, named)?;
+    let (count, from) = read_count(octets, first.octets, first.present)?;
+    let all = read_fields(octets, count, from, named)?;
+    read_end(octets, all.next, ending)?;
+    let fields = all.fields;
+    Ok(PacketRead {
+        kind: first.kind,
+        value: first.value,
+        count,
+        fields,
+    })
 }
 
-// A packet's kind, value and fields in the edition that an octet names, or a refusal: 15 for another octet comes first (rule 7.2).
-pub fn read(edition: u8, octets: &[u8], ending: Ending) -> PacketRead
+// A packet in the edition that an octet names, or a refusal: 15 for another octet comes first (rule 7.2).
+pub fn read(edition: u8, octets: &[u8], ending: Ending) -> Result<PacketRead, Refusal>
     ensures { ReadBy edition ending octets.now result }
 {
     match packet_rules::choice_of(edition) {
-        Choice::Edition(named) => read_named(named, octets, ending),
-        Choice::Neither => refused(Refusal::new(Refusal::WRONG_SETTINGS)),
+        Some(named) => read_named(named, octets, ending),
+        None => Err(Refusal::new(Reason::WrongSettings)),
     }
 }

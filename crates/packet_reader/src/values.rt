@@ -6,21 +6,14 @@ ghost use Rattle.packet_laws.specs.Octets.{Narrow};
 ghost use Rattle.packet_reader.specs.Items.{NearPacket, PlainTold, RootTold, AddedTold, ValueTold};
 
 use crate::places::{bit, bits};
-use length::Refusal;
+use length::{Reason, Refusal};
 use packet::Enumerated;
-
-// The value, and the place after it.
-#[derive(Drop)]
-pub enum ValueRead {
-    Value(u8, usize),
-    Refused(Refusal),
-}
 
 // How many bits an added value takes, behind the bit for extension and a bit that is 0 (rule 7.5).
 const ADDED_WIDTH: usize = 6;
 
-// One of those before the extension mark (rule 6.3).
-fn read_root(octets: &[u8], item: usize, p: usize, e: Enumerated) -> ValueRead
+// One of those before the extension mark (rule 6.3), and the place after it.
+fn read_root(octets: &[u8], item: usize, p: usize, e: Enumerated) -> Result<(u8, usize), Refusal>
     requires near_packet { NearPacket 3 octets.now p }
     requires narrow { Narrow e }
     ensures { RootTold e item octets.now p result }
@@ -28,57 +21,58 @@ fn read_root(octets: &[u8], item: usize, p: usize, e: Enumerated) -> ValueRead
     let all = 8 * octets.len();
     let next = p + e.width;
     if all < next {
-        return ValueRead::Refused(Refusal::at(Refusal::ENDS_EARLY, item));
+        return Err(Refusal::at(Reason::EndsEarly, item));
     }
     let value = bits(octets, e.width, p);
     if value < e.assigned {
-        let octet = value as u8;
-        return ValueRead::Value(octet, next);
+        Ok((value as u8, next))
+    } else {
+        Err(Refusal::at(Reason::NotAssigned, item))
     }
-    ValueRead::Refused(Refusal::at(Refusal::NOT_ASSIGNED, item))
 }
 
-// One of those added after it (rules 7.5 to 7.8).
-fn read_added(octets: &[u8], item: usize, p: usize, e: Enumerated) -> ValueRead
+// One of those added after it (rules 7.5 to 7.8), and the place after it.
+fn read_added(octets: &[u8], item: usize, p: usize, e: Enumerated) -> Result<(u8, usize), Refusal>
     requires near_packet { NearPacket 3 octets.now p }
     requires narrow { Narrow e }
     ensures { AddedTold e item octets.now p result }
 {
-    if e.added < 1 {
-        return ValueRead::Refused(Refusal::at(Refusal::NOT_ASSIGNED, item));
-    }
-    if bit(octets, p) {
-        return ValueRead::Refused(Refusal::at(Refusal::NOT_ASSIGNED, item));
+    if e.added < 1 || bit(octets, p) {
+        return Err(Refusal::at(Reason::NotAssigned, item));
     }
     let all = 8 * octets.len();
     let start = p + 1;
     let next = start + ADDED_WIDTH;
     if all < next {
-        return ValueRead::Refused(Refusal::at(Refusal::ENDS_EARLY, item));
+        return Err(Refusal::at(Reason::EndsEarly, item));
     }
     let index = bits(octets, ADDED_WIDTH, start);
     if index < e.added {
         let value = e.assigned + index;
-        let octet = value as u8;
-        return ValueRead::Value(octet, next);
+        Ok((value as u8, next))
+    } else {
+        Err(Refusal::at(Reason::NotAssigned, item))
     }
-    ValueRead::Refused(Refusal::at(Refusal::NOT_ASSIGNED, item))
 }
 
-// A value of the item that begins at the octet `item`.
-pub fn read_value(octets: &[u8], item: usize, p: usize, e: Enumerated) -> ValueRead
+// A value of the item that begins at the octet `item`, and the place after it.
+pub fn read_value(
+    octets: &[u8],
+    item: usize,
+    p: usize,
+    e: Enumerated,
+) -> Result<(u8, usize), Refusal>
     requires near_packet { NearPacket 2 octets.now p }
     requires narrow { Narrow e }
     ensures { ValueTold e item octets.now p result }
 {
-    if e.extensible {
-        let start = p + 1;
-        if bit(octets, p) {
-            return read_added(octets, item, start, e);
-        }
-        return read_root(octets, item, start, e);
+    if !e.extensible {
+        read_root(octets, item, p, e)
+    } else if bit(octets, p) {
+        read_added(octets, item, p + 1, e)
+    } else {
+        read_root(octets, item, p + 1, e)
     }
-    read_root(octets, item, p, e)
 }
 
 // How many bits a value before the extension mark takes, with the bit for extension where there is a mark. Read in one step they are the
@@ -87,8 +81,5 @@ pub fn plain_width(e: Enumerated) -> usize
     requires { Narrow e }
     ensures { PlainTold e result }
 {
-    if e.extensible {
-        return e.width + 1;
-    }
-    e.width
+    if e.extensible { e.width + 1 } else { e.width }
 }

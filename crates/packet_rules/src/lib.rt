@@ -6,19 +6,17 @@ ghost use Rattle.packet.specs.Edition as edition;
 ghost use Rattle.packet.specs.Edition.{edition_of, choice_of, carries, allows};
 ghost use Rattle.packet.specs.Packet.{right_fields};
 
-use packet::{Choice, Enumerated, Named, PacketKind};
+use packet::{Enumerated, Named, PacketKind};
 
 // The edition that an octet names: 0 the old, 1 the new, another neither (rules 7.1 and 7.2).
-pub fn choice_of(octet: u8) -> Choice
+pub fn choice_of(octet: u8) -> Option<Named>
     ensures { result ≡ choice_of octet }
 {
-    if octet == 0 {
-        return Choice::Edition(Named::Old);
+    match octet {
+        0 => Some(Named::Old),
+        1 => Some(Named::New),
+        _ => None,
     }
-    if octet == 1 {
-        return Choice::Edition(Named::New);
-    }
-    Choice::Neither
 }
 
 // The values of a kind (rules 6.3, 7.3 and 7.4).
@@ -91,20 +89,9 @@ pub fn right_fields(kind: PacketKind, present: bool) -> bool
 pub fn right_data(kind: u8, present: bool) -> bool
     ensures { result ≡ allows (carries kind) present }
 {
-    if kind == 0 {
-        return present;
+    match kind {
+        0 | 6 | 8..=10 => present,
+        1..=5 => !present,
+        _ => true,
     }
-    if kind < 6 {
-        return !present;
-    }
-    if kind == 6 {
-        return present;
-    }
-    if kind == 7 {
-        return true;
-    }
-    if kind < 11 {
-        return present;
-    }
-    true
 }

@@ -1,5 +1,6 @@
 -- What the writer decides before it writes: one law for each answer, in the words of the code; and the size of what is
 -- to be written. Assumes nothing.
+use Rattle.std.proofs.Common.{Ok, Err}
 use Prim.Native.Nat.{ℕ, ◌+◌, ◌-◌, ◌≤◌, ◌<◌}
 use mathlib.Core.Path.{◌≡◌, refl, sym, ap, ap₂, ◌∙◌}
 use mathlib.Core.Bool.{Bool, true, false, not, ◌&&◌}
@@ -7,23 +8,21 @@ use mathlib.Core.List.{List, [], ◌∷◌}
 use lib.ListN.{length, get_or, drop, drop_of_length-le}
 use lib.Dec.{leb, ltb, eqb}
 use native.Mathlib.Omega.{arith}
-use borrow.Author.Tests.{lt-ltb, le-ltb, eq-eqb, ne_eqb, not-true, not-false}
+use borrow.Author.Tests.{lt-ltb, le-ltb, eq-eqb, ne_eqb, not-false}
 use Rattle.length.specs.Refusals.{outside_sizes, wrong_settings, not_assigned, wrong_data}
 use Rattle.length.specs.Tables.{when, unless}
 use Rattle.length.specs.Promise.{RefusalMade}
 use Rattle.length.specs.declared.Refusal.{Refusal}
-use Rattle.length.specs.declared.Written.TheVariants as written
 use Rattle.packet.specs.Edition.{many, allows, Edition, values, carries, edition_of}
 use Rattle.packet.specs.Packet.{fields_limit, many_values, right_fields, right_data, every}
 use Rattle.packet.specs.Write.{with_data, packet_octets, lengths_sum, one_each, all_assigned, right_types, all_right, in_sizes, packet_to_write}
-use Rattle.packet_laws.specs.Items.{Wide, TypesRight, AllAssigned, AllRight, PacketSized, Measured}
+use Rattle.packet_laws.specs.Items.{TypesRight, AllAssigned, AllRight, PacketSized, Measured}
 use Rattle.packet.specs.declared.types.Enumerated.{Enumerated}
 use Rattle.packet.specs.declared.types.PacketKind.{PacketKind}
 use Rattle.packet.specs.declared.types.Named.{Named}
 use Rattle.packet.specs.declared.types.Named.TheVariants.{Old, New}
 use Rattle.packet.proofs.Laws.{each-length}
 use Rattle.packet_laws.proofs.Laws.{drop-next, packet-size, narrow}
-use Rattle.packet_writer.proofs.Values.{values-narrow, types-narrow}
 
 -- ---- both of two tests
 pub both_left : (a b : Bool) → a ≡ false → false ≡ (a && b)
@@ -47,12 +46,6 @@ module _ (ts ns d : List ℕ) where
   pub each_same : {b : Bool} → b ≡ one_each ts ns d → not b ≡ false → length ts ≡ length ns
   each_same {b} is fine = each-length ts ns d (sym is ∙ not-false b fine)
 
-  pub each-few : {b : Bool} → length ts ≤ fields_limit → b ≡ one_each ts ns d → not b ≡ false → length ns ≤ fields_limit
-  each-few few is fine = let e = each_same is fine in omega arith
-
-pub few-same : (ts ns : List ℕ) → length ts ≤ fields_limit → length ts ≡ length ns → length ns ≤ fields_limit
-few-same ts ns few same = omega arith
-
 -- ---- which types carry data does not depend on the edition
 rule-of : (named : Named) (t : ℕ) (b : Bool) → right_data (edition_of named) t b ≡ allows (carries t) b
 rule-of Old t b = refl
@@ -60,19 +53,21 @@ rule-of New t b = refl
 
 -- ---- 12
 module _ {named : Named} {k : PacketKind} {v : ℕ} {ts : List ℕ} {e : Enumerated} (is : e ≡ values (edition_of named) k) where
-  pub assigned-not : e.assigned + e.added ≤ v → AllAssigned named k v ts false
+  pub assigned-not : {n : ℕ} → n ≡ v → e.assigned + e.added ≤ n → AllAssigned named k v ts (ltb n (e.assigned + e.added))
   unfolding all_assigned
-  assigned-not over =
-      let n = many_values (edition_of named) k in
-      record { so = both_left (ltb v n) _ (le-ltb v n (rw is at over)) }
+  assigned-not {n} same over =
+      let most = many_values (edition_of named) k in
+      let above : e.assigned + e.added ≤ v = omega arith in
+      record { so = le-ltb n (e.assigned + e.added) over ∙ both_left (ltb v most) _ (le-ltb v most (rw is at above)) }
 
-  pub assigned-is : {types : Enumerated} {b : Bool} → v < e.assigned + e.added → types ≡ (edition_of named).types
+  pub assigned-is : {types : Enumerated} {n : ℕ} {b : Bool} → n ≡ v → n < e.assigned + e.added → types ≡ (edition_of named).types
       → b ≡ every (λ t. leb t (many types - 1)) ts
       → AllAssigned named k v ts b
   unfolding all_assigned
-  assigned-is {types} {b} known is_types same =
-      let n = many_values (edition_of named) k in
-      record { so = both_right (ltb v n) _ b (lt-ltb v n (rw is at known)) (rw is_types at same) }
+  assigned-is {types} {n} {b} same known is_types each =
+      let most = many_values (edition_of named) k in
+      let below : v < e.assigned + e.added = omega arith in
+      record { so = both_right (ltb v most) _ b (lt-ltb v most (rw is at below)) (rw is_types at each) }
 
 -- ---- 14
 pub record RightLeft (ts ns : List ℕ) (i : ℕ) : Type 0 where
@@ -87,28 +82,28 @@ right-next edition ts ns i h same = ap₂ (right_types edition) (drop-next ts i 
 pub right-start : {ts ns : List ℕ} → RightLeft ts ns 0
 right-start = record { so = λ (named : Named). refl }
 
-module _ {ts ns : List ℕ} {i n : ℕ} {b : Bool} (left : RightLeft ts ns i) (same : length ts ≡ length ns) (h : i < length ts)
-    (wide : Wide (get_or ns i 0) n) (is : b ≡ allows (carries (get_or ts i 0)) (ltb 0 n)) where
+module _ {ts ns : List ℕ} {i : ℕ} {b : Bool} (left : RightLeft ts ns i) (same : length ts ≡ length ns) (h : i < length ts)
+    (is : b ≡ allows (carries (get_or ts i 0)) (ltb 0 (get_or ns i 0))) where
   -- the field at hand decides, or what is left after it
   right-one : (named : Named)
       → right_types (edition_of named) ts ns ≡ (b && right_types (edition_of named) (drop (i + 1) ts) (drop (i + 1) ns))
   right-one named =
       let t = get_or ts i 0 in
       let e : right_data (edition_of named) (get_or ts i 0) (with_data (get_or ns i 0)) ≡ b
-      = rule-of named t (with_data (get_or ns i 0)) ∙ ap (λ (k : ℕ). allows (carries t) (ltb 0 k)) (sym wide.same) ∙ sym is in
+      = rule-of named t (with_data (get_or ns i 0)) ∙ sym is in
       let rest = right_types (edition_of named) (drop (i + 1) ts) (drop (i + 1) ns) in
       left.so named ∙ right-next (edition_of named) ts ns i h same ∙ ap (λ (c : Bool). c && rest) e
 
-  pub right-turn : not b ≡ false → RightLeft ts ns (i + 1)
+  pub right-turn : b ≡ true → RightLeft ts ns (i + 1)
   right-turn fine = record {
     so = λ (named : Named).
-        right-one named ∙ ap (λ (c : Bool). c && right_types (edition_of named) (drop (i + 1) ts) (drop (i + 1) ns)) (not-false b fine);
+        right-one named ∙ ap (λ (c : Bool). c && right_types (edition_of named) (drop (i + 1) ts) (drop (i + 1) ns)) fine;
   }
 
-  pub right-not : not b ≡ true → TypesRight ts ns false
+  pub right-not : b ≡ false → TypesRight ts ns false
   right-not wrong = record {
     so = λ (named : Named). sym (right-one named
-        ∙ ap (λ (c : Bool). c && right_types (edition_of named) (drop (i + 1) ts) (drop (i + 1) ns)) (not-true b wrong));
+        ∙ ap (λ (c : Bool). c && right_types (edition_of named) (drop (i + 1) ts) (drop (i + 1) ns)) wrong);
   }
 
 pub right-done : {ts ns : List ℕ} {i : ℕ} → RightLeft ts ns i → length ts ≤ i → TypesRight ts ns true
@@ -138,9 +133,6 @@ pub ruleset decided = (
   right-done,
   all-not,
   all-is,
-  few-same,
-  values-narrow,
-  types-narrow,
 )
 
 -- ---- the answers
@@ -162,23 +154,23 @@ module _ (named : Named) (k : PacketKind) (v : ℕ) (ts ns d : List ℕ) {each k
       rw (le-ltb fields_limit (length ts) few, ← is_each, so, ← is_known.so, so_known, ← is_right.so, so_right, size_is, ← is_fits)
 
 module _ {named : Named} {k : PacketKind} {v : ℕ} {ts ns d : List ℕ} where
-  pub measured-many : {x : Refusal} → fields_limit < length ts → RefusalMade outside_sizes x → Measured named k v ts ns d (written.Refused x)
+  pub measured-many : {x : Refusal} → fields_limit < length ts → RefusalMade outside_sizes x → Measured named k v ts ns d (Err x)
   unfolding packet_to_write unless
   measured-many many made = record { answer = rw (lt-ltb fields_limit (length ts) many, made.answer) }
 
   module _ {each : Bool} (few : length ts ≤ fields_limit) (is_each : each ≡ one_each ts ns d) where
-    pub measured-each : {x : Refusal} → not each ≡ true → RefusalMade wrong_settings x → Measured named k v ts ns d (written.Refused x)
+    pub measured-each : {x : Refusal} → not each ≡ true → RefusalMade wrong_settings x → Measured named k v ts ns d (Err x)
     unfolding packet_to_write unless
     measured-each not_so made = record { answer = rw (le-ltb fields_limit (length ts) few, ← is_each, not_so, made.answer) }
 
     module _ {known : Bool} (so : not each ≡ false) (is_known : AllAssigned named k v ts known) where
-      pub measured-known : {x : Refusal} → not known ≡ true → RefusalMade not_assigned x → Measured named k v ts ns d (written.Refused x)
+      pub measured-known : {x : Refusal} → not known ≡ true → RefusalMade not_assigned x → Measured named k v ts ns d (Err x)
       unfolding packet_to_write unless
       measured-known not_so made =
           record { answer = rw (le-ltb fields_limit (length ts) few, ← is_each, so, ← is_known.so, not_so, made.answer) }
 
       module _ {right : Bool} (so_known : not known ≡ false) (is_right : AllRight named k ts ns right) where
-        pub measured-right : {x : Refusal} → not right ≡ true → RefusalMade wrong_data x → Measured named k v ts ns d (written.Refused x)
+        pub measured-right : {x : Refusal} → not right ≡ true → RefusalMade wrong_data x → Measured named k v ts ns d (Err x)
         unfolding packet_to_write unless
         measured-right not_so made =
             record {
@@ -189,7 +181,7 @@ module _ {named : Named} {k : PacketKind} {v : ℕ} {ts ns d : List ℕ} where
         module _ {size : ℕ} {fits : Bool} (so_right : not right ≡ false) (is_size : PacketSized named k v ts ns size)
             (is_fits : fits ≡ in_sizes ns size) where
           pub measured-sizes : {x : Refusal} → not fits ≡ true → RefusalMade outside_sizes x
-              → Measured named k v ts ns d (written.Refused x)
+              → Measured named k v ts ns d (Err x)
           unfolding unless
           measured-sizes not_so made = record {
             answer = rw (
@@ -199,7 +191,7 @@ module _ {named : Named} {k : PacketKind} {v : ℕ} {ts ns d : List ℕ} where
             );
           }
 
-          pub measured-size : not fits ≡ false → Measured named k v ts ns d (written.Octets size)
+          pub measured-size : not fits ≡ false → Measured named k v ts ns d (Ok size)
           unfolding unless
           measured-size so_fits = record {
             answer =
@@ -211,4 +203,4 @@ module _ {named : Named} {k : PacketKind} {v : ℕ} {ts ns d : List ℕ} where
           }
 
 pub ruleset measures =
-    (each_same, each-few, measured-many, measured-each, measured-known, measured-right, measured-sizes, measured-size)
+    (each_same, measured-many, measured-each, measured-known, measured-right, measured-sizes, measured-size)

@@ -1,7 +1,7 @@
 -- The loop that puts the fields, one turn: what is left to put, put after what is there now, gives the whole. Assumes
 -- nothing.
 use Prim.Native.Nat.{ℕ, zero, suc, ◌+◌, ◌-◌, ◌≤◌, ◌<◌}
-use mathlib.Core.Path.{◌≡◌, refl, sym, ap, ap₂, ◌∙◌}
+use mathlib.Core.Path.{◌≡◌, sym, ap, ap₂, ◌∙◌}
 use mathlib.Core.Bool.{Bool, true}
 use mathlib.Core.List.{List, [], ◌∷◌, ◌++◌, append_assoc}
 use lib.ListN.{length, get_or, take, drop, length-append, length-drop, drop_of_length-le}
@@ -12,14 +12,13 @@ use borrow.Rule.Slice.PartMut.{put_mid}
 use borrow.Author.Tests.{leb-true}
 use Rattle.datagram.specs.Sizes.{packet_limit}
 use Rattle.length.specs.Promise.{Put}
-use Rattle.length.proofs.Laws.{put-none, put_next, put-long, room-left, both}
+use Rattle.length.proofs.Laws.{put_next, put-long, room-left, both}
 use Rattle.format.specs.Waiting.{Waiting, waiting, none_wait, Waits, closed}
-use Rattle.format.proofs.Laws.{none-waits}
 use Rattle.packet.specs.Edition.{many}
 use Rattle.packet.specs.Packet.{every}
 use Rattle.packet.specs.Write.{lengths_sum}
 use Rattle.packet_laws.specs.Laid.{field_octets, after_field, fields_octets}
-use Rattle.packet_laws.specs.Items.{Wide, EdgeFits, FieldFits, FieldPut, FieldsFit}
+use Rattle.packet_laws.specs.Items.{EdgeFits, FieldFits, FieldPut, FieldsFit}
 use Rattle.packet.specs.declared.types.Enumerated.{Enumerated}
 use Rattle.packet_laws.proofs.Laws.{rest, drop-next, sum-next, after-waits}
 
@@ -47,21 +46,6 @@ pub record Filling (e : Enumerated) (ts ns d old out : List ℕ) (i from at k v 
   pub put : Put front old out at
   pub whole : front ++ fields_octets e (waiting k v) (drop i ts) (drop i ns) (drop from d) ≡ fields_octets e none_wait ts ns d
 
-pub fill_start : {e : Enumerated} {ts ns d old : List ℕ} → FieldsFit e ts ns d old → Filling e ts ns d old old 0 0 0 0 0
-fill_start fits =
-    record {
-      inside = omega arith;
-      long = refl;
-      left = omega (arith, fits.right.all);
-      waits = none-waits;
-      front = [];
-      put = put-none;
-      whole = refl;
-    }
-
-pub fill-at : {e : Enumerated} {ts ns d old out : List ℕ} {i from at k v : ℕ} → Filling e ts ns d old out i from at k v → at ≤ length out
-fill-at g = omega (arith, g.put.inside, g.put.answer, g.long)
-
 -- one turn: its data, its field, those after it, and their room
 abbrev part_of : List ℕ → ℕ → ℕ → List ℕ
 part_of d from n = take (from + n - from) (drop from d)
@@ -74,11 +58,11 @@ record Step (e : Enumerated) (ts ns d old : List ℕ) (front : List ℕ) (i from
   room : at + length (field_octets e (waiting k v) (get_or ts i 0) (part_of d from n)) ≤ length old
 
 module _ {e : Enumerated} {ts ns d old out : List ℕ} {i from at k v n : ℕ} (fits : FieldsFit e ts ns d old)
-    (g : Filling e ts ns d old out i from at k v) (h : i < length ts) (size : Wide (get_or ns i 0) n) where
+    (g : Filling e ts ns d old out i from at k v) (h : i < length ts) (size : n ≡ get_or ns i 0) where
   step : Step e ts ns d old g.front i from at k v n
   step =
       let next = sum-next ns i (omega (arith, fits.right.same)) in
-      let part : from + n - from ≡ get_or ns i 0 = omega (arith, size.same) in
+      let part : from + n - from ≡ get_or ns i 0 = omega (arith, size) in
       let w : Waiting = waiting k v in
       let t = get_or ts i 0 in
       let here = field_octets e (waiting k v) (get_or ts i 0) (part_of d from n) in
@@ -88,11 +72,11 @@ module _ {e : Enumerated} {ts ns d old out : List ℕ} {i from at k v n : ℕ} (
       = fields-next e w ts ns (drop from d) i h fits.right.same
       ∙ ap₂ (λ (a b : List ℕ). field_octets e w t a ++ fields_octets e (after_field e w t a) (drop (i + 1) ts) (drop (i + 1) ns) b)
       (ap (λ (m : ℕ). take m (drop from d)) (sym part))
-      (drop-drop (get_or ns i 0) from d ∙ ap (λ (m : ℕ). drop (from + m) d) (sym size.same)) in
+      (drop-drop (get_or ns i 0) from d ∙ ap (λ (m : ℕ). drop (from + m) d) (sym size)) in
       let whole : (g.front ++ here) ++ more ≡ fields_octets e none_wait ts ns d
       = append_assoc g.front here more ∙ ap (λ (l : List ℕ). g.front ++ l) (sym both) ∙ g.whole in
       record {
-        left = omega (arith, g.left, size.same);
+        left = omega (arith, g.left, size);
         whole = whole;
         room =
             omega (
@@ -111,7 +95,7 @@ module _ {e : Enumerated} {ts ns d old out : List ℕ} {i from at k v n : ℕ} (
   pub fill-fits : FieldFits e (waiting k v) (get_or ts i 0) (take (from + n - from) (drop from d)) (rest at out)
   fill-fits =
       let s = step in
-      let part : from + n - from ≡ get_or ns i 0 = omega (arith, size.same) in
+      let part : from + n - from ≡ get_or ns i 0 = omega (arith, size) in
       let within : from + n - from ≤ length (drop from d) = omega (arith, length-drop from d, s.left) in
       let low : get_or ts i 0 ≤ many e - 1
       = leb-true (get_or ts i 0) (many e - 1) (every-at (λ t. leb t (many e - 1)) ts i fits.right.known h) in
@@ -169,4 +153,4 @@ module _ {e : Enumerated} {ts ns d old out : List ℕ} {i from at k v : ℕ} (fi
   end-put put = rw end_is at (put_next g.put put)
 
 -- the laws of the loop that puts the fields
-pub ruleset fills = (fill_start, fill-at, fill-data, fill-fits, fill-turn, end_fits, end-put)
+pub ruleset fills = (fill-data, fill-fits, fill-turn, end_fits, end-put)

@@ -1,6 +1,6 @@
 -- What the writer puts into the lent buffer for the first item, for a header and for a field, after the bits that wait: one law for each
 -- answer. Assumes nothing.
-use Prim.Native.Nat.{ℕ, ◌+◌, ◌-◌, ◌*◌, ◌^◌, ◌≤◌, ◌<◌}
+use Prim.Native.Nat.{ℕ, ◌+◌, ◌-◌, ◌*◌, ◌≤◌, ◌<◌}
 use mathlib.Core.Path.{◌≡◌, sym, ap, ap₂, subst, ◌∙◌}
 use mathlib.Core.Bool.{Bool, true, false}
 use mathlib.Core.List.{List, ◌++◌, append_assoc}
@@ -20,7 +20,6 @@ use Rattle.packet.specs.declared.types.Enumerated.{Enumerated}
 use Rattle.packet.specs.declared.types.PacketKind.{PacketKind}
 use Rattle.packet_laws.proofs.Laws.{rest, flag_small, value-small, lead-small, lead-waits, flag-waits, header-waits}
 use Rattle.packet_laws.proofs.Laws.{field-bare, after-bare, field-full, after-full}
-use Rattle.packet_writer.proofs.Putting.{bits-few}
 
 -- ---- the first item
 module _ {e : Enumerated} {kind : PacketKind} {v p q n x : ℕ} {b : Bool} {old : List ℕ}
@@ -107,10 +106,7 @@ module _ {e : Enumerated} {k v t f : ℕ} {b : Bool} {old : List ℕ} (fits : He
           waits = type.waits ∙ ap left all;
         }
 
-    pub header-next : {part : List ℕ} {m y' z' : ℕ} → BitsPut (waiting y z) n x (rest r mid) part m y' z' → r + m < 2 ^ 64
-    header-next type = omega (arith, bits-few (waiting k v) 1 f flag, bits-few (waiting y z) n x type)
-
-pub ruleset headers = (header-flag, header-type, header-fills, header-next)
+pub ruleset headers = (header-flag, header-type, header-fills)
 
 -- ---- a field
 module _ {e : Enumerated} {k v t : ℕ} {d old : List ℕ} (fits : FieldFits e (waiting k v) t d old) where

@@ -1,26 +1,13 @@
--- A value of an ENUMERATED type: what an edition names stands in at most eight bits, and one law for each answer of the functions that
--- tell its bits. Assumes nothing.
+-- A value of an ENUMERATED type: one law for each answer of the functions that tell its bits. Assumes nothing.
 use Prim.Native.Nat.{ℕ, ◌+◌, ◌-◌, ◌≤◌, ◌<◌}
 use mathlib.Core.Path.{◌≡◌}
 use mathlib.Core.Bool.{true, false}
 use native.Mathlib.Omega.{arith}
 use borrow.Author.Tests.{le-leb, lt-leb}
-use Rattle.packet.specs.Edition.{values, edition_of}
 use Rattle.packet_laws.specs.Octets.{Narrow}
 use Rattle.packet_laws.specs.Laid.{value_width, value_bits}
 use Rattle.packet_laws.specs.Items.{ValueWide}
 use Rattle.packet.specs.declared.types.Enumerated.{Enumerated}
-use Rattle.packet.specs.declared.types.PacketKind.{PacketKind}
-use Rattle.packet.specs.declared.types.Named.{Named}
-use Rattle.packet_laws.proofs.Laws as packets
-
--- ---- what an edition names
-module _ (named : Named) where
-  pub values-narrow : (k : PacketKind) {e : Enumerated} → e ≡ values (edition_of named) k → Narrow e
-  values-narrow k is = rw is ((packets.narrow named).of_kind k)
-
-  pub types-narrow : {e : Enumerated} → e ≡ (edition_of named).types → Narrow e
-  types-narrow is = rw is (packets.narrow named).of_types
 
 -- ---- in how many bits a value stands, and the number that they make
 module _ {e : Enumerated} {v : ℕ} (narrow : Narrow e) where

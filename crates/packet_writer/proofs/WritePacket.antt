@@ -1,6 +1,7 @@
 -- What the writer's definition says of a packet that it writes, and one law for each answer of `write` and of the
 -- functions that put the count and the packet. Assumes nothing.
-use Prim.Native.Nat.{ℕ, ◌+◌, ◌-◌, ◌^◌, ◌≤◌, ◌<◌}
+use Rattle.std.proofs.Common.{Result, Ok, Err}
+use Prim.Native.Nat.{ℕ, ◌+◌, ◌-◌, ◌≤◌}
 use mathlib.Core.Path.{◌≡◌, refl, sym, ap, ◌∙◌}
 use mathlib.Core.Bool.{true, false, not, cond}
 use mathlib.Core.List.{List, [], ◌++◌}
@@ -9,15 +10,12 @@ use lib.Dec.{leb, ltb}
 use native.Mathlib.Omega.{arith}
 use borrow.Rule.Slice.PartMut.{put_mid}
 use borrow.Author.Tests.{le-ltb, le-leb, not-true, not-false}
-use Rattle.length.specs.Refusals.{no_room, wrong_settings}
-use Rattle.length.specs.Answers.{Answer, done, refused, refuse, written_outcome, size_of}
+use Rattle.length.specs.Answers.{Answer, done, refused, written_outcome, size_of}
 use Rattle.length.specs.Tables.{unless}
 use Rattle.length.specs.Length.{length_octets, length_to_write, length_limit}
-use Rattle.length.specs.Promise.{RefusalMade, Puts, Put}
+use Rattle.length.specs.Promise.{Puts, Put}
 use Rattle.length.specs.declared.Refusal.{Refusal}
-use Rattle.length.specs.declared.Written.{Written}
-use Rattle.length.specs.declared.Written.TheVariants as written
-use Rattle.length.proofs.Laws.{put_next, put-long, put-puts, full-puts, room-left}
+use Rattle.length.proofs.Laws.{put_next, put-long, put-puts, room-left}
 use Rattle.packet.specs.Edition.{values, edition_of}
 use Rattle.packet.specs.Write.{packet_to_write}
 use Rattle.format.specs.Waiting.{none_wait}
@@ -30,7 +28,7 @@ use Rattle.packet.proofs.Laws.{WriteForm, write-form}
 use Rattle.packet_laws.proofs.Laws.{rest, write-laid, packet-bare, packet-full, narrow}
 
 -- ---- the count, then the fields
-module _ {e : Enumerated} {ts ns d old mid : List ℕ} {r : Written} (fits : CountedFit e ts ns d old)
+module _ {e : Enumerated} {ts ns d old mid : List ℕ} {r : Result ℕ Refusal} (fits : CountedFit e ts ns d old)
     (puts : Puts (length_to_write (length ts)) old mid r) where
   -- the count has room, so that it is written
   count-written : (written_outcome r ≡ done (length (length_octets (length ts))))
@@ -43,12 +41,12 @@ module _ {e : Enumerated} {ts ns d old mid : List ℕ} {r : Written} (fits : Cou
       = le-leb (length w) (length old) (omega (arith, fits.room, length-append w (fields_octets e none_wait ts ns d))) in
       (rw (small, room) at puts.answer, rw (small, room) at puts.lent)
 
-  pub count-never : {x : Refusal} → r ≡ written.Refused x → Put (counted_fields e ts ns d) old mid 0
+  pub count-never : {x : Refusal} → r ≡ Err x → Put (counted_fields e ts ns d) old mid 0
   count-never is =
       let z : ◌≡◌ {A = ℕ} 0 1 = cc (count-written.0, ap written_outcome is) in
       absurd (omega arith)
 
-  module _ {at : ℕ} (is : r ≡ written.Octets at) where
+  module _ {at : ℕ} (is : r ≡ Ok at) where
     count-is : Put (length_octets (length ts)) old mid at
     count-is =
         record {
@@ -56,9 +54,6 @@ module _ {e : Enumerated} {ts ns d old mid : List ℕ} {r : Written} (fits : Cou
           answer = cc (count-written.0, ap written_outcome is);
           lent = count-written.1;
         }
-
-    pub count-inside : at ≤ length mid
-    count-inside = omega (arith, count-is.inside, count-is.answer, put-long count-is)
 
     pub count_fits : FieldsFit e ts ns d (rest at mid)
     count_fits =
@@ -80,7 +75,7 @@ module _ {e : Enumerated} {ts ns d old mid : List ℕ} {r : Written} (fits : Cou
       pub count-put : Put (counted_fields e ts ns d) old (put_mid at (length mid - at) mid part) (at + n)
       count-put = put_next count-is put
 
-pub ruleset counteds = (count-never, count-inside, count_fits, count-put)
+pub ruleset counteds = (count-never, count_fits, count-put)
 
 -- ---- the packet
 module _ {named : Named} {k : PacketKind} {v : ℕ} {ts ns d old : List ℕ} (fits : PacketFits named k v ts ns d old) where
@@ -113,9 +108,6 @@ module _ {named : Named} {k : PacketKind} {v : ℕ} {ts ns d old : List ℕ} (fi
       pub packet-only : not (ltb 0 (length ts)) ≡ true → Put (laid_octets (edition_of named) k v ts ns d) old mid at
       packet-only none = rw (packet-bare (edition_of named) k v ts ns d (not-true _ none)) first-put
 
-      pub packet-inside : at ≤ length mid
-      packet-inside = omega (arith, first-put.inside, first-put.answer, put-long first-put)
-
       module _ {types : Enumerated} (some : not (ltb 0 (length ts)) ≡ false) (is_types : types ≡ (edition_of named).types) where
         packet-long : length first + length (counted_fields types ts ns d) ≡ length (laid_octets (edition_of named) k v ts ns d)
         packet-long =
@@ -143,14 +135,11 @@ module _ {named : Named} {k : PacketKind} {v : ℕ} {ts ns d old : List ℕ} (fi
             }
 
         module _ {part : List ℕ} {n : ℕ} (counted : Put (counted_fields types ts ns d) (rest at mid) part n) where
-          pub packet-next : at + n < 2 ^ 64
-          packet-next = omega (arith, form.size, packet-long, first-put.answer, counted.answer)
-
           pub packet-put : Put (laid_octets (edition_of named) k v ts ns d) old (put_mid at (length mid - at) mid part) (at + n)
           packet-put =
               rw (packet-full (edition_of named) k v ts ns d (not-false _ some)) (put_next first-put (rw is_types at counted))
 
-pub ruleset packets = (packet-first, packet-only, packet-inside, packet-fits, packet-next, packet-put)
+pub ruleset packets = (packet-first, packet-only, packet-fits, packet-put)
 
 -- ---- the answers of `write_named`
 -- what is measured is written
@@ -158,8 +147,8 @@ record ToWrite (named : Named) (k : PacketKind) (v : ℕ) (ts ns d : List ℕ) (
   allowed : packet_to_write (edition_of named) k v ts ns d ≡ done (laid_octets (edition_of named) k v ts ns d)
   long : length (laid_octets (edition_of named) k v ts ns d) ≡ n
 
-write-is : {named : Named} {k : PacketKind} {v : ℕ} {ts ns d : List ℕ} {r : Written} {n : ℕ} → Measured named k v ts ns d r
-    → r ≡ written.Octets n
+write-is : {named : Named} {k : PacketKind} {v : ℕ} {ts ns d : List ℕ} {r : Result ℕ Refusal} {n : ℕ} → Measured named k v ts ns d r
+    → r ≡ Ok n
     → ToWrite named k v ts ns d n
 write-is {named} {k} {v} {ts} {ns} {d} {r} {n} measured is = by (packet_to_write (edition_of named) k v ts ns d) refl
     (sym measured.answer ∙ ap written_outcome is) where
@@ -170,31 +159,14 @@ write-is {named} {k} {v} {ts} {ns} {d} {r} {n} measured is = by (packet_to_write
           record { allowed = e ∙ ap (λ (l : List ℕ). done l) is; long = ap length (sym is) ∙ long }
       by (refused x) e size = let z : ◌≡◌ {A = ℕ} 0 1 = cc in absurd (omega arith)
 
-module _ {named : Named} {k : PacketKind} {v : ℕ} {ts ns d old : List ℕ} {r : Written} where
-  pub write-refused : {x : Refusal} → Measured named k v ts ns d r → r ≡ written.Refused x
-      → Puts (packet_to_write (edition_of named) k v ts ns d) old old (written.Refused x)
-  write-refused {x} measured is = by (packet_to_write (edition_of named) k v ts ns d) (sym measured.answer ∙ ap written_outcome is) where
-    by : (a : Answer (List ℕ)) → size_of a ≡ refused x → Puts a old old (written.Refused x)
-    by (done w) e = let z : ◌≡◌ {A = ℕ} 0 1 = cc in absurd (omega arith)
-    by (refused y) e = let same : x ≡ y = cc in record { answer = ap (λ (q : Refusal). refused q) same; lent = refl }
-
+module _ {named : Named} {k : PacketKind} {v : ℕ} {ts ns d old : List ℕ} {r : Result ℕ Refusal} where
   module _ {n : ℕ} where
-    pub write-fits : Measured named k v ts ns d r → r ≡ written.Octets n → n ≤ length old → PacketFits named k v ts ns d old
+    pub write-fits : Measured named k v ts ns d r → r ≡ Ok n → n ≤ length old → PacketFits named k v ts ns d old
     write-fits measured is room = let w = write-is measured is in record { allowed = w.allowed; room = omega (arith, w.long) }
 
-    pub write-full : {x : Refusal} → Measured named k v ts ns d r → r ≡ written.Octets n → length old < n → RefusalMade no_room x
-        → Puts (packet_to_write (edition_of named) k v ts ns d) old old (written.Refused x)
-    write-full measured is full made =
-        let w = write-is measured is in
-        rw w.allowed (full-puts made (omega (arith, w.long)))
-
-    pub write_done : {new : List ℕ} {m : ℕ} → Measured named k v ts ns d r → r ≡ written.Octets n
+    pub write_done : {new : List ℕ} {m : ℕ} → Measured named k v ts ns d r → r ≡ Ok n
         → Put (laid_octets (edition_of named) k v ts ns d) old new m
-        → Puts (packet_to_write (edition_of named) k v ts ns d) old new (written.Octets m)
+        → Puts (packet_to_write (edition_of named) k v ts ns d) old new (Ok m)
     write_done {new} {m} measured is put = rw (write-is measured is).allowed (put-puts put)
 
-pub ruleset writes = (write-refused, write-fits, write-full, write_done)
-
--- ---- the answer of `write` to an octet that names no edition
-pub settings-puts : {old : List ℕ} {x : Refusal} → RefusalMade wrong_settings x → Puts (refuse wrong_settings) old old (written.Refused x)
-settings-puts made = record { answer = ap (λ (q : Refusal). refused q) made.answer; lent = refl }
+pub ruleset writes = (write-fits, write_done)

@@ -1,15 +1,21 @@
-// Bits after those that wait for the rest of their octet (rule 5.6): `width` is how many wait, and `value` the number that they make.
+// Bits after those that wait for the rest of their octet (rule 5.6).
 ghost use Rattle.std.specs.Prelude.{◌≡◌, ◌^◌, ◌≤◌};
 ghost use Rattle.length.specs.Promise.{Put};
 ghost use Rattle.format.specs.Waiting.{waiting, closed};
 ghost use Rattle.packet_laws.specs.Items.{BitIs, BitsFit, BitsPut, EdgeFits};
 
+// Bits that wait: how many, and the number that they make.
+#[derive(Clone, Copy)]
+pub struct Waiting {
+    pub width: usize,
+    pub value: usize,
+}
+
 // How many octets were filled, and what waits then.
 #[derive(Drop)]
 pub struct Filled {
     pub octets: usize,
-    pub width: usize,
-    pub value: usize,
+    pub after: Waiting,
 }
 
 // A power of two.
@@ -21,18 +27,21 @@ fn power(k: usize) -> usize
 }
 
 // `count` bits after those that wait.
-pub fn put_bits(width: usize, value: usize, count: usize, bits: usize, out: &mut [u8]) -> Filled
-    requires { BitsFit (waiting width value) count bits out.old }
-    ensures { BitsPut (waiting width value) count bits out.old out.new result.octets result.width result.value }
+pub fn put_bits(before: Waiting, count: usize, bits: usize, out: &mut [u8]) -> Filled
+    requires { BitsFit (waiting before.width before.value) count bits out.old }
+    ensures { BitsPut (waiting before.width before.value) count bits out.old out.new result.octets
+        result.after.width result.after.value }
 {
-    let above = value * power(count);
+    let above = before.value * power(count);
     let all = above + bits;
-    let long = width + count;
+    let long = before.width + count;
     if long < 8 {
         return Filled {
             octets: 0,
-            width: long,
-            value: all,
+            after: Waiting {
+                width: long,
+                value: all,
+            },
         };
     }
     let rest = long - 8;
@@ -42,20 +51,22 @@ pub fn put_bits(width: usize, value: usize, count: usize, bits: usize, out: &mut
     let less = all % part;
     Filled {
         octets: 1,
-        width: rest,
-        value: less,
+        after: Waiting {
+            width: rest,
+            value: less,
+        },
     }
 }
 
 // Zero bits to an octet edge after those that wait (rule 5.3), and how many octets are filled.
-pub fn put_edge(width: usize, value: usize, out: &mut [u8]) -> usize
-    requires { EdgeFits (waiting width value) out.old }
-    ensures { Put (closed (waiting width value)) out.old out.new result }
+pub fn put_edge(before: Waiting, out: &mut [u8]) -> usize
+    requires { EdgeFits (waiting before.width before.value) out.old }
+    ensures { Put (closed (waiting before.width before.value)) out.old out.new result }
 {
-    if width < 1 {
+    if before.width < 1 {
         return 0;
     }
-    let octet = value * power(8 - width);
+    let octet = before.value * power(8 - before.width);
     out[0] = octet as u8;
     1
 }
@@ -64,8 +75,5 @@ pub fn put_edge(width: usize, value: usize, out: &mut [u8]) -> usize
 pub fn bit(set: bool) -> usize
     ensures { BitIs set result }
 {
-    if set {
-        return 1;
-    }
-    0
+    usize::from(set)
 }

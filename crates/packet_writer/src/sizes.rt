@@ -6,34 +6,20 @@ ghost use Rattle.packet.specs.Packet.{fields_limit, every};
 ghost use Rattle.packet.specs.Write.{lengths_sum, one_each, in_sizes};
 ghost use Rattle.packet_laws.specs.Octets.{Narrow};
 ghost use Rattle.packet_laws.specs.Laid.{value_bits};
-ghost use Rattle.packet_laws.specs.Items.{Wide, ValueWide, TypesRight, PastFits, FieldPast, FieldsPast, AllAssigned, AllRight};
+ghost use Rattle.packet_laws.specs.Items.{ValueWide, TypesRight, PastFits, FieldPast, FieldsPast, AllAssigned, AllRight};
 ghost use Rattle.packet_laws.specs.Items.{PacketSized, Measured};
 ghost use Rattle.datagram.specs.Sizes.{packet_limit};
 
 use datagram::Packet;
-use length::{Refusal, Written};
+use length::{Reason, Refusal};
 use packet::{Enumerated, Field, Named, PacketKind};
-
-// A length as a size.
-pub fn data_size(length: u16) -> usize
-    ensures { Wide length result }
-{
-    length as usize
-}
 
 // The sum of the lengths of at most 16 fields; nothing wraps (rule 2.34).
 fn sum_of(lengths: &[u16]) -> usize
     requires { length lengths.now ≤ fields_limit }
     ensures { result ≡ lengths_sum lengths.now }
 {
-    let mut sum: usize = 0;
-    let mut i: usize = 0;
-    while i < lengths.len() {
-        let size = data_size(lengths[i]);
-        sum += size;
-        i += 1;
-    }
-    sum
+    lengths.iter().map(|&n| usize::from(n)).sum()
 }
 
 // How many bits a value takes: with the bit for extension, where there is a mark; an added value a 1, a 0 and six bits (rules 6.2 and 7.5).
@@ -41,14 +27,13 @@ pub fn value_width(known: Enumerated, value: u8) -> usize
     requires { Narrow known }
     ensures { ValueWide known value result }
 {
-    let number = value as usize;
-    if known.assigned <= number {
-        return 8;
+    if known.assigned <= usize::from(value) {
+        8
+    } else if known.extensible {
+        1 + known.width
+    } else {
+        known.width
     }
-    if known.extensible {
-        return 1 + known.width;
-    }
-    known.width
 }
 
 // The number that these bits make.
@@ -56,12 +41,12 @@ pub fn value_bits(known: Enumerated, value: u8) -> usize
     requires { Narrow known }
     ensures { result ≡ value_bits known value }
 {
-    let number = value as usize;
+    let number = usize::from(value);
     if known.assigned <= number {
-        let added = number - known.assigned;
-        return 128 + added;
+        128 + (number - known.assigned)
+    } else {
+        number
     }
-    number
 }
 
 // The place after a field at `place` with `size` octets of data: its header and, with data, an octet edge, two octets, the data (rule 6.8).
@@ -72,11 +57,10 @@ fn past_field(known: Enumerated, place: usize, kind: u8, size: usize) -> usize
     let width = value_width(known, kind);
     let next = place + 1 + width;
     if 0 < size {
-        let edge = (next + 7) / 8;
-        let octets = edge + 2 + size;
-        return 8 * octets;
+        8 * ((next + 7) / 8 + 2 + size)
+    } else {
+        next
     }
-    next
 }
 
 // The place after at most 16 fields, the first of which is at this place.
@@ -84,13 +68,9 @@ fn past_fields(known: Enumerated, from: usize, types: &[u8], lengths: &[u16]) ->
     requires { PastFits known from types.now lengths.now }
     ensures { FieldsPast known from types.now lengths.now result }
 {
-    let mut place: usize = from;
-    let mut i: usize = 0;
-    while i < types.len() {
-        let size = data_size(lengths[i]);
-        let next = past_field(known, place, types[i], size);
-        place = next;
-        i += 1;
+    let mut place = from;
+    for (i, kind) in types.iter().enumerate() {
+        place = past_field(known, place, *kind, usize::from(lengths[i]));
     }
     place
 }
@@ -102,29 +82,14 @@ fn all_types(known: Enumerated, types: &[u8]) -> bool
 {
     let count = known.assigned + known.added;
     let last = (count - 1) as u8;
-    let mut i: usize = 0;
-    while i < types.len() {
-        if last < types[i] {
-            return false;
-        }
-        i += 1;
-    }
-    true
+    types.iter().all(|&kind| kind <= last)
 }
 
 // Whether the data of each field is within the packet limit (rule 6.23).
 fn all_short(lengths: &[u16]) -> bool
     ensures { result ≡ every (λ n. leb n packet_limit) lengths.now }
 {
-    let mut i: usize = 0;
-    while i < lengths.len() {
-        let size = data_size(lengths[i]);
-        if Packet::LIMIT < size {
-            return false;
-        }
-        i += 1;
-    }
-    true
+    lengths.iter().all(|&n| usize::from(n) <= Packet::LIMIT)
 }
 
 // Whether each of as many fields as there are types has data or not, as its type may (rules 6.10 and 7.10).
@@ -132,14 +97,10 @@ fn right_types(types: &[u8], lengths: &[u16]) -> bool
     requires { length types.now ≡ length lengths.now }
     ensures { TypesRight types.now lengths.now result }
 {
-    let mut i: usize = 0;
-    while i < types.len() {
-        let size = data_size(lengths[i]);
-        let present = 0 < size;
-        if !packet_rules::right_data(types[i], present) {
+    for (i, kind) in types.iter().enumerate() {
+        if !packet_rules::right_data(*kind, 0 < lengths[i]) {
             return false;
         }
-        i += 1;
     }
     true
 }
@@ -149,10 +110,7 @@ fn one_each(types: &[u8], lengths: &[u16], data: &[u8]) -> bool
     requires { length types.now ≤ fields_limit }
     ensures { result ≡ one_each types.now lengths.now «data».now }
 {
-    if types.len() == lengths.len() {
-        return sum_of(lengths) == data.len();
-    }
-    false
+    types.len() == lengths.len() && sum_of(lengths) == data.len()
 }
 
 // Not 12: the value and each type are assigned (rules 2.12 and 6.19).
@@ -160,13 +118,8 @@ fn all_assigned(named: Named, kind: PacketKind, value: u8, types: &[u8]) -> bool
     ensures { AllAssigned named kind value types.now result }
 {
     let values = packet_rules::values(named, kind);
-    let count = values.assigned + values.added;
-    let number = value as usize;
-    if number < count {
-        let known = packet_rules::types(named);
-        return all_types(known, types);
-    }
-    false
+    usize::from(value) < values.assigned + values.added
+        && all_types(packet_rules::types(named), types)
 }
 
 // Not 14: data where it must be, none where none may be, and no fields on an indicator (rules 2.14 and 6.22).
@@ -174,21 +127,14 @@ fn all_right(named: Named, kind: PacketKind, types: &[u8], lengths: &[u16]) -> b
     requires { length types.now ≡ length lengths.now }
     ensures { AllRight named kind types.now lengths.now result }
 {
-    let some = 0 < types.len();
-    if packet_rules::right_fields(kind, some) {
-        return right_types(types, lengths);
-    }
-    false
+    packet_rules::right_fields(kind, 0 < types.len()) && right_types(types, lengths)
 }
 
 // Not the second 4: the data of each field and the whole are within the packet limit (rule 6.23).
 fn in_sizes(lengths: &[u16], size: usize) -> bool
     ensures { result ≡ in_sizes lengths.now size }
 {
-    if all_short(lengths) {
-        return size <= Packet::LIMIT;
-    }
-    false
+    all_short(lengths) && size <= Packet::LIMIT
 }
 
 // The octets of a packet with at most 16 fields, of these types and lengths.
@@ -201,11 +147,11 @@ fn packet_size(named: Named, kind: PacketKind, value: u8, types: &[u8], lengths:
     let first = (bits + 7) / 8;
     if 0 < types.len() {
         let known = packet_rules::types(named);
-        let from = 8 * (first + 1);
-        let end = past_fields(known, from, types, lengths);
-        return (end + 7) / 8;
+        let end = past_fields(known, 8 * (first + 1), types, lengths);
+        (end + 7) / 8
+    } else {
+        first
     }
-    first
 }
 
 // How many octets a packet has, or its first refusal, without that for room (rule 6.20).
@@ -216,24 +162,24 @@ pub fn measure(
     types: &[u8],
     lengths: &[u16],
     data: &[u8],
-) -> Written
+) -> Result<usize, Refusal>
     ensures { Measured named kind value types.now lengths.now «data».now result }
 {
     if Field::LIMIT < types.len() {
-        return Written::Refused(Refusal::new(Refusal::OUTSIDE_SIZES));
+        return Err(Refusal::new(Reason::OutsideSizes));
     }
     if !one_each(types, lengths, data) {
-        return Written::Refused(Refusal::new(Refusal::WRONG_SETTINGS));
+        return Err(Refusal::new(Reason::WrongSettings));
     }
     if !all_assigned(named, kind, value, types) {
-        return Written::Refused(Refusal::new(Refusal::NOT_ASSIGNED));
+        return Err(Refusal::new(Reason::NotAssigned));
     }
     if !all_right(named, kind, types, lengths) {
-        return Written::Refused(Refusal::new(Refusal::WRONG_DATA));
+        return Err(Refusal::new(Reason::WrongData));
     }
     let size = packet_size(named, kind, value, types, lengths);
     if !in_sizes(lengths, size) {
-        return Written::Refused(Refusal::new(Refusal::OUTSIDE_SIZES));
+        return Err(Refusal::new(Reason::OutsideSizes));
     }
-    Written::Octets(size)
+    Ok(size)
 }

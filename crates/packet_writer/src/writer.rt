@@ -11,10 +11,10 @@ ghost use Rattle.packet_laws.specs.Laid.{first_octets, size_octets, fields_octet
 ghost use Rattle.packet_laws.specs.Items.{BitIs, DataFits, FirstFits, HeaderFits, HeaderPut, FieldFits};
 ghost use Rattle.packet_laws.specs.Items.{FieldPut, FieldsFit, CountedFit, PacketFits};
 
-use crate::bits::{Filled, bit, put_bits, put_edge};
-use crate::sizes::{data_size, measure, value_bits, value_width};
-use length::{Refusal, Written};
-use packet::{Choice, Enumerated, Named, PacketKind};
+use crate::bits::{Filled, Waiting, bit, put_bits, put_edge};
+use crate::sizes::{measure, value_bits, value_width};
+use length::{Reason, Refusal};
+use packet::{Enumerated, Named, PacketKind};
 
 // The length of some data and the data at the front of out (rule 6.8), and how many octets they took.
 fn put_data(data: &[u8], out: &mut [u8]) -> usize
@@ -29,55 +29,39 @@ fn put_data(data: &[u8], out: &mut [u8]) -> usize
 }
 
 // A header after the bits that wait: the bit for data present, and the type (rules 5.6 and 6.7).
-fn put_header(
-    known: Enumerated,
-    kind: u8,
-    present: bool,
-    width: usize,
-    value: usize,
-    out: &mut [u8],
-) -> Filled
-    requires { HeaderFits known (waiting width value) kind present out.old }
-    ensures { HeaderPut known (waiting width value) kind present out.old out.new result.octets result.width
-        result.value }
+fn put_header(known: Enumerated, kind: u8, present: bool, before: Waiting, out: &mut [u8]) -> Filled
+    requires { HeaderFits known (waiting before.width before.value) kind present out.old }
+    ensures { HeaderPut known (waiting before.width before.value) kind present out.old out.new result.octets
+        result.after.width result.after.value }
 {
-    let flag = put_bits(width, value, 1, bit(present), &mut *out);
+    let flag = put_bits(before, 1, bit(present), &mut *out);
     let at = flag.octets;
     let count = value_width(known, kind);
     let bits = value_bits(known, kind);
-    let all = put_bits(flag.width, flag.value, count, bits, &mut out[at..]);
+    let all = put_bits(flag.after, count, bits, &mut out[at..]);
     let octets = at + all.octets;
     Filled {
-        octets: octets,
-        width: all.width,
-        value: all.value,
+        octets,
+        after: all.after,
     }
 }
 
 // A field after the bits that wait (rules 6.7 and 6.8).
-fn put_field(
-    known: Enumerated,
-    kind: u8,
-    data: &[u8],
-    width: usize,
-    value: usize,
-    out: &mut [u8],
-) -> Filled
-    requires { FieldFits known (waiting width value) kind «data».now out.old }
-    ensures { FieldPut known (waiting width value) kind «data».now out.old out.new result.octets
-        result.width result.value }
+fn put_field(known: Enumerated, kind: u8, data: &[u8], before: Waiting, out: &mut [u8]) -> Filled
+    requires { FieldFits known (waiting before.width before.value) kind «data».now out.old }
+    ensures { FieldPut known (waiting before.width before.value) kind «data».now out.old out.new result.octets
+        result.after.width result.after.value }
 {
     if data.len() < 1 {
-        return put_header(known, kind, false, width, value, out);
+        return put_header(known, kind, false, before, out);
     }
-    let header = put_header(known, kind, true, width, value, &mut *out);
+    let header = put_header(known, kind, true, before, &mut *out);
     let at = header.octets;
-    let from = at + put_edge(header.width, header.value, &mut out[at..]);
+    let from = at + put_edge(header.after, &mut out[at..]);
     let octets = from + put_data(data, &mut out[from..]);
     Filled {
-        octets: octets,
-        width: 0,
-        value: 0,
+        octets,
+        after: Waiting { width: 0, value: 0 },
     }
 }
 
@@ -93,29 +77,17 @@ fn put_fields(
     ensures { Put (fields_octets known none_wait types.now lengths.now «data».now)
         out.old out.new result }
 {
-    let mut i: usize = 0;
-    let mut from: usize = 0;
-    let mut at: usize = 0;
-    let mut width: usize = 0;
-    let mut value: usize = 0;
-    while i < types.len() {
-        let size = data_size(lengths[i]);
-        let to = from + size;
-        let field = put_field(
-            known,
-            types[i],
-            &data[from..to],
-            width,
-            value,
-            &mut out[at..],
-        );
+    let mut from = 0;
+    let mut at = 0;
+    let mut before = Waiting { width: 0, value: 0 };
+    for (i, kind) in types.iter().enumerate() {
+        let to = from + usize::from(lengths[i]);
+        let field = put_field(known, *kind, &data[from..to], before, &mut out[at..]);
         at += field.octets;
-        width = field.width;
-        value = field.value;
+        before = field.after;
         from = to;
-        i += 1;
     }
-    let end = put_edge(width, value, &mut out[at..]);
+    let end = put_edge(before, &mut out[at..]);
     at + end
 }
 
@@ -131,9 +103,8 @@ fn put_counted(
     ensures { Put (counted_fields known types.now lengths.now «data».now)
         out.old out.new result }
 {
-    let count = length_code::write(types.len(), &mut *out);
     // there are at most 16 fields and room for their count, so it is never refused
-    let Written::Octets(at) = count else {
+    let Ok(at) = length_code::write(types.len(), &mut *out) else {
         return 0;
     };
     let size = put_fields(known, types, lengths, data, &mut out[at..]);
@@ -156,12 +127,15 @@ fn put_first(known: Enumerated, kind: PacketKind, value: u8, present: bool, out:
     ensures { Put (first_octets known (record { kind = kind; value = value; present = present })) out.old
         out.new result }
 {
-    let lead = 2 * bit(present) + kind_bit(kind);
+    let lead = Waiting {
+        width: 2,
+        value: 2 * bit(present) + kind_bit(kind),
+    };
     let count = value_width(known, value);
     let bits = value_bits(known, value);
-    let all = put_bits(2, lead, count, bits, &mut *out);
+    let all = put_bits(lead, count, bits, &mut *out);
     let at = all.octets;
-    let end = put_edge(all.width, all.value, &mut out[at..]);
+    let end = put_edge(all.after, &mut out[at..]);
     at + end
 }
 
@@ -199,20 +173,16 @@ fn write_named(
     lengths: &[u16],
     data: &[u8],
     out: &mut [u8],
-) -> Written
+) -> Result<usize, Refusal>
     ensures { Puts
         (packet_to_write (edition_of named) kind value types.now lengths.now «data».now)
         out.old out.new result }
 {
-    match measure(named, kind, value, types, lengths, data) {
-        Written::Refused(refusal) => Written::Refused(refusal),
-        Written::Octets(size) => {
-            if out.len() < size {
-                return Written::Refused(Refusal::new(Refusal::NO_ROOM));
-            }
-            Written::Octets(put_packet(named, kind, value, types, lengths, data, out))
-        }
+    let size = measure(named, kind, value, types, lengths, data)?;
+    if out.len() < size {
+        return Err(Refusal::new(Reason::NoRoom));
     }
+    Ok(put_packet(named, kind, value, types, lengths, data, out))
 }
 
 // The same by the edition that the caller names; another octet is 15, before all else (rules 7.1 and 7.2).
@@ -224,12 +194,12 @@ pub fn write(
     lengths: &[u16],
     data: &[u8],
     out: &mut [u8],
-) -> Written
+) -> Result<usize, Refusal>
     ensures { PacketWritten edition kind value types.now lengths.now «data».now
         out.old out.new result }
 {
     match packet_rules::choice_of(edition) {
-        Choice::Neither => Written::Refused(Refusal::new(Refusal::WRONG_SETTINGS)),
-        Choice::Edition(named) => write_named(named, kind, value, types, lengths, data, out),
+        None => Err(Refusal::new(Reason::WrongSettings)),
+        Some(named) => write_named(named, kind, value, types, lengths, data, out),
     }
 }

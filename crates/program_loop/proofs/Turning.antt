@@ -45,24 +45,22 @@ turning-start {l = l} within line read room =
     }
 
 -- after a read that gave nothing
-pub turning-none : {first : View} {session : Lent} {l block : List ℕ} {begun : ℕ} {out : List ℕ} {taken handed : ℕ}
-    → Turning first session l block begun out taken handed
-    → {new : List ℕ} {n after : ℕ} → n ≡ 0 → after ≡ (taken + n) % 2 ^ 64 → length new ≡ length block
-    → Turning first session l new begun out after handed
-turning-none t none on same =
-    let far = t.so_far in
+pub so-far-none : {first : View} {session : Lent} {l : List ℕ} {begun taken handed : ℕ} → SoFar first session l begun taken handed
+    → {n after : ℕ} → n ≡ 0 → after ≡ (taken + n) % 2 ^ 64 → SoFar first session l begun after handed
+so-far-none far none on =
     record {
-      feedable = t.feedable;
-      block-long = t.block-long ∙ sym same;
-      out-long = t.out-long;
-      so_far = record {
-        input = far.input;
-        text = far.text;
-        way = far.way;
-        read = tallied-on far.input [] far.read none on ∙ ap tallied (append-nil far.input);
-        wrote = far.wrote;
-      };
+      input = far.input;
+      text = far.text;
+      way = far.way;
+      read = tallied-on far.input [] far.read none on ∙ ap tallied (append-nil far.input);
+      wrote = far.wrote;
     }
+
+-- without a read
+pub so-far-same : {first : View} {session : Lent} {l : List ℕ} {begun taken handed : ℕ} → SoFar first session l begun taken handed
+    → {after : ℕ} → after ≡ taken → SoFar first session l begun after handed
+so-far-same far same =
+    record { input = far.input; text = far.text; way = far.way; read = same ∙ far.read; wrote = far.wrote }
 
 -- the test for a write that failed
 pub written_all : (written : Bool) → not written ≡ false → written ≡ true

@@ -24,8 +24,7 @@ fn read_on<R: Read>(input: &mut R, block: &mut [u8], taken: &mut usize) -> usize
     ensures taken_after { taken.new ≡ (taken.old + result) % 2 ^ 64 }
 {
     let n = input.read(block).unwrap_or(0);
-    let before = *taken;
-    *taken = std::num::wrapping_add_usize(before, n);
+    *taken = taken.wrapping_add(n);
     n
 }
 
@@ -35,12 +34,12 @@ fn hand_over<W: Write>(output: &mut W, out: &[u8], end: usize, handed: &mut usiz
     ensures { handed.new ≡ (handed.old + end) % 2 ^ 64 }
 {
     let front = &out[..end];
-    let before = *handed;
-    *handed = std::num::wrapping_add_usize(before, front.len());
+    *handed = handed.wrapping_add(front.len());
     output.write_all(front).is_ok()
 }
 
-// The session after a block, how much of a line has begun, and whether all was written.
+// The session after a block, how much of a line has begun, and whether all was written. The session and the line are within their ranges
+// after a failed write too; a Result would not say so.
 #[derive(Drop)]
 struct Passed {
     base: u16,
@@ -71,6 +70,7 @@ fn pass<W: Write>(
     let mut moves = last.counts;
     let mut kept = last.begun;
     let mut from = 0;
+    // The place moves by what was taken.
     while from < block.len() {
         let part = line_code::take_block(
             after,
@@ -84,12 +84,10 @@ fn pass<W: Write>(
             out,
         );
         after = part.base;
-        let moved = part.counts;
-        moves = moved;
+        moves = part.counts;
         kept = part.begun;
         from += part.taken;
-        let end = part.end;
-        if !hand_over(output, out, end, handed) {
+        if !hand_over(output, out, part.end, handed) {
             return Passed {
                 base: after,
                 counts: moves,
@@ -107,6 +105,7 @@ fn pass<W: Write>(
 }
 
 // The session at the end, how many octets were read and how many passed to `write`, and whether all was written up to the end of the input.
+// The session is within its ranges after a failed write too; a Result would not say so.
 #[derive(Drop)]
 pub struct Served {
     pub base: u16,
@@ -116,8 +115,8 @@ pub struct Served {
     pub whole: bool,
 }
 
-// Block after block, then the end of the input. A proved loop must terminate, and the input need not end: so the loop counts its turns down
-// from a number that no run uses up.
+// Block after block, then the end of the input. A proved loop must terminate, and the input need not end: so the loop counts its turns up
+// to a number that no run reaches.
 pub fn serve<R: Read, W: Write>(
     input: &mut R,
     output: &mut W,
@@ -140,55 +139,49 @@ pub fn serve<R: Read, W: Write>(
     let mut begun = 0;
     let mut taken = 0;
     let mut handed = 0;
-    let mut turns = u64::MAX;
-    while turns > 0 {
-        turns -= 1;
+    for _ in 0..u64::MAX {
         let n = read_on(input, &mut block, &mut taken);
         if n == 0 {
-            turns = 0;
-        } else {
-            let last = Passed {
+            break;
+        }
+        let last = Passed {
+            base: after,
+            counts: moves,
+            begun,
+            written: true,
+        };
+        let passed = pass(
+            output,
+            last,
+            table,
+            octets,
+            messages,
+            &mut line,
+            &block[..n],
+            &mut out,
+            &mut handed,
+        );
+        after = passed.base;
+        moves = passed.counts;
+        begun = passed.begun;
+        if !passed.written {
+            return Served {
                 base: after,
                 counts: moves,
-                begun,
-                written: true,
+                taken,
+                handed,
+                whole: false,
             };
-            let passed = pass(
-                output,
-                last,
-                table,
-                octets,
-                messages,
-                &mut line,
-                &block[..n],
-                &mut out,
-                &mut handed,
-            );
-            after = passed.base;
-            let moved = passed.counts;
-            moves = moved;
-            begun = passed.begun;
-            if !passed.written {
-                return Served {
-                    base: after,
-                    counts: moves,
-                    taken,
-                    handed,
-                    whole: false,
-                };
-            }
         }
     }
     let ended = line_code::finish(
         after, moves, table, octets, messages, &line, begun, &mut out, 0,
     );
-    let last_base = ended.base;
-    let last_counts = ended.counts;
     let end = ended.end;
     let whole = hand_over(output, &out, end, &mut handed);
     Served {
-        base: last_base,
-        counts: last_counts,
+        base: ended.base,
+        counts: ended.counts,
         taken,
         handed,
         whole,

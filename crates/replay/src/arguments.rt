@@ -1,133 +1,72 @@
 // The numbers to drop, from the arguments: in decimal, or `0x` and hexadecimal digits (rules 21.8 and 21.10).
-use crate::telling::say;
+use program_input::say;
 use std::env::{Env, FillError};
+use std::str;
 
 // At most as many arguments as there are numbers of 16 bits.
 pub const MOST: usize = 65536;
 
-// Returned in place of a count if an argument is wrong.
-pub const NONE: usize = usize::MAX;
+// An argument is wrong, and standard error says why.
+#[derive(Drop)]
+pub struct Wrong;
 
 // The room for the characters of an argument.
 const LONGEST: usize = 32;
 
-// Returned for a character that is no digit, and for text that is no number of 16 bits.
-const NO_DIGIT: u32 = 16;
-
-const NO_NUMBER: u32 = 65536;
-
-// Returned behind the last argument.
-const NO_ARGUMENT: u32 = 65537;
-
-fn digit(c: u8) -> u32 {
-    let n = std::num::wrapping_sub_u8(c, b'0') as u32;
-    if n < 10 {
-        return n;
+// The number in a text. The library's reader takes a sign too, which is no digit.
+fn number_in(text: &[u8]) -> Option<u16> {
+    let text = str::from_utf8(text).ok()?;
+    let (digits, base) = match text.strip_prefix("0x").or(text.strip_prefix("0X")) {
+        Some(digits) => (digits, 16),
+        None => (text, 10),
+    };
+    if digits.starts_with('+') {
+        return None;
     }
-    // An upper-case letter and its lower-case letter differ in this bit alone.
-    let letter = std::num::wrapping_sub_u8(c | 0x20, b'a') as u32;
-    if letter < 6 {
-        return letter + 10;
-    }
-    NO_DIGIT
+    u16::from_str_radix(digits, base).ok()
 }
 
-// A number with one more digit; NO_NUMBER if the digit is not one of the base, or n is already too large.
-fn more(n: u32, digit: u32, base: u32) -> u32 {
-    if (base <= digit) | (NO_NUMBER <= n) {
-        return NO_NUMBER;
-    }
-    if base == 16 {
-        return n % NO_NUMBER * 16 + digit % 16;
-    }
-    n % NO_NUMBER * 10 + digit % 16
-}
-
-// The number that some digits of a base give; NO_NUMBER without a digit.
-fn number(digits: &[u8], base: u32) -> u32 {
-    if digits.len() == 0 {
-        return NO_NUMBER;
-    }
-    let mut n = 0;
-    let mut i = 0;
-    while i < digits.len() {
-        let next = digit(digits[i]);
-        n = more(n, next, base);
-        i += 1;
-    }
-    n
-}
-
-fn number_in(text: &[u8]) -> u32 {
-    if text.len() < 2 {
-        return number(text, 10);
-    }
-    if (text[0] == b'0') & ((text[1] == b'x') | (text[1] == b'X')) {
-        return number(&text[2..], 16);
-    }
-    number(text, 10)
-}
-
-// The number in a text; if it is none, prints why and returns NO_NUMBER.
-fn number_or_none(rt: HostRuntime, text: &[u8]) -> u32 {
-    let n = number_in(text);
-    if n < NO_NUMBER {
-        return n;
-    }
-    let to = rt.stderr();
-    say(to, b"replay: ");
-    say(to, text);
+fn say_no_number(rt: &HostRuntime, text: &[u8]) {
+    say(rt, b"replay: ");
+    say(rt, text);
     say(
-        to,
+        rt,
         b" is not a number to drop: 0 to 65535 in decimal, or 0x and hexadecimal digits\n",
     );
-    NO_NUMBER
 }
 
-// The number in an argument, or NO_ARGUMENT; if it holds none, prints why and returns NO_NUMBER.
-fn number_at(rt: HostRuntime, at: usize) -> u32 {
+// The number in an argument, or None if there is no such argument.
+fn number_at(rt: &HostRuntime, at: usize) -> Result<Option<u16>, Wrong> {
     let mut text = [0u8; LONGEST];
     match rt.arg(at, &mut text) {
-        Ok(size) => number_or_none(rt, &text[..size]),
-        Err(FillError::NotPresent) => NO_ARGUMENT,
+        Ok(size) => match number_in(&text[..size]) {
+            Some(n) => Ok(Some(n)),
+            None => {
+                say_no_number(rt, &text[..size]);
+                Err(Wrong)
+            }
+        },
+        Err(FillError::NotPresent) => Ok(None),
         Err(FillError::TooLong) => {
-            say(
-                rt.stderr(),
-                b"replay: an argument is too long for a number\n",
-            );
-            NO_NUMBER
+            say(rt, b"replay: an argument is too long for a number\n");
+            Err(Wrong)
         }
     }
 }
 
-// Writes the numbers in the arguments after the trace to the front of `out`, and returns how many there are, or NONE if one is wrong.
-pub fn numbers(rt: HostRuntime, out: &mut [u16; MOST]) -> usize {
+// Writes the numbers in the arguments after the trace to the front of `out`, and returns them.
+pub fn numbers<'a>(rt: &HostRuntime, out: &'a mut [u16; MOST]) -> Result<&'a [u16], Wrong> {
     let mut count = 0;
     for at in 2..usize::MAX {
-        let n = number_at(rt, at);
-        if n == NO_ARGUMENT {
-            return count;
-        }
-        if n == NO_NUMBER {
-            return NONE;
-        }
+        let Some(n) = number_at(rt, at)? else {
+            break;
+        };
         if count == MOST {
-            say(rt.stderr(), b"replay: more than 65536 numbers\n");
-            return NONE;
+            say(rt, b"replay: more than 65536 numbers\n");
+            return Err(Wrong);
         }
-        let place = count % MOST;
-        out[place] = (n % NO_NUMBER) as u16;
-        count = place + 1;
+        out[count] = n;
+        count += 1;
     }
-    count
-}
-
-// The first `count` numbers, or none if there are fewer.
-pub fn first(numbers: &[u16; MOST], count: usize) -> &[u16] {
-    let all = &numbers[..];
-    if count <= all.len() {
-        let start = 0;
-        return &all[start..count];
-    }
-    &all[..0]
+    Ok(&out[..count])
 }

@@ -14,14 +14,8 @@ use std::io::{Read, Stdout};
 // How many characters of the trace are read at once, and how much text may wait.
 const BLOCK: usize = 65536;
 
-// The counts at the end, and whether every read and write succeeded (rule 21.11).
-#[derive(Drop)]
-pub struct Told {
-    pub counts: Counts,
-    pub well: bool,
-}
-
-// The end of the trace: a last line without a line feed counts unless it is empty (rule 21.9). Then all waiting text is written.
+// The end of the trace: a last line without a line feed counts unless it is empty (rule 21.9). Then all waiting text is written. Returns
+// the counts at the end, or None if a write failed (rule 21.11).
 fn finish(
     to: Stdout,
     from: Going,
@@ -31,32 +25,25 @@ fn finish(
     numbers: &[u16],
     line: &[u8],
     out: &mut [u8],
-) -> Told
+) -> Option<Counts>
     requires { Feedable step_limit (lent from.base from.counts t.old o.old g.old) line.now from.begun out.old
         from.end }
 {
     let begun = from.begun;
     if begun == 0 {
         let counts = from.counts;
-        let end = from.end;
-        let well = hand_over(to, out, end);
-        return Told { counts, well };
+        return hand_over(to, out, from.end).then_some(counts);
     }
     let last = end_line(to, from, t, o, g, numbers, &line[..begun], out);
     let counts = last.counts;
-    let end = last.end;
     if !last.well {
-        return Told {
-            counts,
-            well: false,
-        };
+        return None;
     }
-    let well = hand_over(to, out, end);
-    Told { counts, well }
+    hand_over(to, out, last.end).then_some(counts)
 }
 
-// Plays block after block, then the end. A proved loop must terminate, but a file may never end: so the loop counts its turns down, from a
-// number that no run can use up.
+// Plays block after block, then the end, and returns the counts at the end, or None if a write failed. A proved loop must terminate, but a
+// file may never end: so the loop counts its turns up to a number that no run reaches.
 pub fn play(
     file: &mut File,
     to: Stdout,
@@ -66,7 +53,7 @@ pub fn play(
     o: &mut [u8; Session::PACKET_OCTETS],
     g: &mut [u8; Session::MESSAGE_OCTETS],
     numbers: &[u16],
-) -> io::Result<Told>
+) -> io::Result<Option<Counts>>
     requires { InRanges (lent base counts t.old o.old g.old) }
 {
     let mut line = [0u8; Line::KEPT];
@@ -76,33 +63,26 @@ pub fn play(
     let mut moves = counts;
     let mut begun = 0;
     let mut end = 0;
-    let mut turns = u64::MAX;
-    while turns > 0 {
-        turns -= 1;
+    for _ in 0..u64::MAX {
         let n = file.read(&mut block)?;
         if n == 0 {
-            turns = 0;
-        } else {
-            let at = Going {
-                base: after,
-                counts: moves,
-                begun,
-                end,
-                well: true,
-            };
-            let next = take_block(to, at, t, o, g, numbers, &mut line, &block[..n], &mut out);
-            after = next.base;
-            let moved = next.counts;
-            moves = moved;
-            begun = next.begun;
-            end = next.end;
-            if !next.well {
-                return Ok(Told {
-                    counts: moves,
-                    well: false,
-                });
-            }
+            break;
         }
+        let at = Going {
+            base: after,
+            counts: moves,
+            begun,
+            end,
+            well: true,
+        };
+        let next = take_block(to, at, t, o, g, numbers, &mut line, &block[..n], &mut out);
+        if !next.well {
+            return Ok(None);
+        }
+        after = next.base;
+        moves = next.counts;
+        begun = next.begun;
+        end = next.end;
     }
     let last = Going {
         base: after,

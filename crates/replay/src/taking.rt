@@ -12,7 +12,8 @@ use session_held::{Counts, Session};
 use std::io::Stdout;
 use trace_replay_code::replay_line;
 
-// Base and counts of the session, how many characters of a line are kept, how much text waits, and whether every write succeeded.
+// Base and counts of the session, how many characters of a line are kept, how much text waits, and whether every write succeeded:
+// another line may follow in either case, and a Result would not say so of a failure.
 #[derive(Drop)]
 pub struct Going {
     pub base: u16,
@@ -119,6 +120,7 @@ pub fn take_block(
     let mut begun = from.begun;
     let mut end = from.end;
     let mut at = 0;
+    // The place moves past the next line feed.
     while at < block.len() {
         let stop = find_feed(&block[at..]);
         let feed = at + stop;

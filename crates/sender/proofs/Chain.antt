@@ -1,5 +1,6 @@
 -- A chain of sends from a fresh session is an honest sender: after each send the session holds the last 32 places of the row
 -- of all packets that were accepted, so that what it sends next is what the row gives. Assumes nothing.
+use Rattle.std.proofs.Common.{Ok}
 use Prim.Native.Nat.{ℕ, suc, ◌+◌, ◌-◌, ◌%◌, ◌≤◌, ◌<◌}
 use mathlib.Core.Path.{◌≡◌, refl, sym, ap, ap₂, ◌∙◌}
 use mathlib.Core.Logic.{⊎_elim}
@@ -13,7 +14,6 @@ use Rattle.octets.specs.Place.{tab}
 use Rattle.octets.proofs.Laws.{tab-at, tab-ext, tab-shift, tab-same, below_or_not}
 use Rattle.datagram.specs.Carried.{Extra, Carried}
 use Rattle.datagram.specs.Write.{datagram_octets}
-use Rattle.length.specs.declared.Written.TheVariants as written
 use Rattle.session.specs.View.{numbers}
 use Rattle.sender.specs.Sending.{Sending, history_kept, newest_place, fresh_sending, sent_on}
 use Rattle.sender.specs.Carries.{settings_inside, carried_from}
@@ -129,7 +129,7 @@ pub record RunHolds (s : Sender) (row datagrams : List (List ℕ)) : Type 0 wher
   pub honest : HonestSender row datagrams
 
 run-sent : {s : Sender} {row datagrams : List (List ℕ)} {settings : Settings} {packet old new : List ℕ} {r : Sent} {n : ℕ}
-    → RunHolds s row datagrams → Sends s settings packet old new r → r.answer ≡ written.Octets n
+    → RunHolds s row datagrams → Sends s settings packet old new r → r.answer ≡ Ok n
     → RunHolds r.sender (row ++ (packet ∷ [])) (datagrams ++ (take n new ∷ []))
 run-sent {s} {row} {datagrams} {settings} {packet} {old} {new} {r} {n} held sends e =
     let says = sent-says sends e in

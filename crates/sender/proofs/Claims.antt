@@ -1,10 +1,11 @@
 -- The claims of this crate, each proved by a law. Two outcomes of a send are equal because an answer's case is its number and
 -- values, and within the ranges a session is what the rules see of it. Assumes nothing.
+use Rattle.std.proofs.Common.{Result}
 use Prim.Native.Nat.{ℕ}
 use mathlib.Core.Path.{◌≡◌, sym, ap, ap₂, ◌∙◌}
 use mathlib.Core.List.{List}
+use Rattle.length.specs.declared.Refusal.{Refusal}
 use Rattle.length.specs.Answers.{Answer, done, refused, fitted}
-use Rattle.length.specs.declared.Written.{Written}
 use Rattle.length.proofs.Claims.{written-told}
 use Rattle.sender.specs.Sending.{Sending}
 use Rattle.sender.specs.Promise.{StateAfter, to_send, Sends}
@@ -25,7 +26,7 @@ state-one (refused r) s packet t u p q = p ∙ sym q
 sent-one : {s : Sender} {settings : Settings} {packet old new other : List ℕ} {r q : Sent} → Sends s settings packet old new r
     → Sends s settings packet old other q → (r ≡ q) × (new ≡ other)
 sent-one {s} {settings} {packet} {old} {new} {other} {r} {q} p t = (
-  ap₂ (λ (x : Sender) (y : Written). record { sender = x; answer = y })
+  ap₂ (λ (x : Sender) (y : Result ℕ Refusal). record { sender = x; answer = y })
       (state-one (fitted (to_send s settings packet) old) s packet r.sender q.sender p.state t.state)
       (written-told r.answer q.answer (p.answer ∙ sym t.answer)),
   p.lent ∙ sym t.lent,

@@ -1,6 +1,7 @@
 -- What follows from the outcome of a send, for this crate and those above: an accepted one was inside the ranges and sizes, its
 -- datagram is at the front of the buffer, and the packet is in the history; a refused one left the session unchanged.
 -- Assumes nothing.
+use Rattle.std.proofs.Common.{Ok, Err}
 use Prim.Native.Nat.{ℕ}
 use mathlib.Core.Path.{◌≡◌, refl, sym, ap, ◌∙◌}
 use mathlib.Core.Bool.{Bool, true, false, not}
@@ -13,7 +14,7 @@ use Rattle.length.specs.Refusals.{outside_ranges}
 use Rattle.length.specs.Answers.{Answer, done, refused, written_outcome, fitted, size_of, over}
 use Rattle.length.specs.Tables.{when, unless}
 use Rattle.length.specs.declared.Refusal.{Refusal}
-use Rattle.length.specs.declared.Written.TheVariants as written
+use Rattle.length.specs.declared.Reason.{Reason}
 use Rattle.sender.specs.Send.{send_rows, datagram_to_send}
 use Rattle.sender.specs.Sender.{sending_of}
 use Rattle.sender.specs.Ranges.{sender_in_ranges}
@@ -23,7 +24,7 @@ use Rattle.sender.specs.declared.Sent.{Sent}
 use Rattle.sender.specs.declared.Settings.{Settings}
 use Rattle.sender.proofs.SendAccepted.{size-done, size-refused, Accepted, accepted}
 
-ranges-told : (b : Bool) (rows : List (Option ℕ)) (w old octets : List ℕ)
+ranges-told : (b : Bool) (rows : List (Option Reason)) (w old octets : List ℕ)
     → fitted (unless (when (not b) outside_ranges ∷ rows) w) old ≡ done octets
     → (b ≡ true) × (fitted (unless rows w) old ≡ done octets)
 unfolding unless
@@ -37,7 +38,7 @@ pub record SentSays (s : Sender) (settings : Settings) (packet new : List ℕ) (
   pub on : SentOn s packet r.sender
 
 module _ {s : Sender} {settings : Settings} {packet old new : List ℕ} {r : Sent} (sends : Sends s settings packet old new r) where
-  pub sent-says : {n : ℕ} → r.answer ≡ written.Octets n → SentSays s settings packet new r n
+  pub sent-says : {n : ℕ} → r.answer ≡ Ok n → SentSays s settings packet new r n
   unfolding to_send datagram_to_send
   sent-says {n} e =
       let told : done n ≡ size_of (fitted (to_send s settings packet) old) = rw e at sends.answer in
@@ -51,7 +52,7 @@ module _ {s : Sender} {settings : Settings} {packet old new : List ℕ} {r : Sen
         on = rw t.1 at sends.state;
       }
 
-  pub refused_says : {why : Refusal} → r.answer ≡ written.Refused why → (r.sender ≡ s) × (new ≡ old)
+  pub refused_says : {why : Refusal} → r.answer ≡ Err why → (r.sender ≡ s) × (new ≡ old)
   refused_says {why} e =
       let told : refused why ≡ size_of (fitted (to_send s settings packet) old) = rw e at sends.answer in
       let none = size-refused (fitted (to_send s settings packet) old) told in

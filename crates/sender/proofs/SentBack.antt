@@ -1,5 +1,6 @@
 -- What a send writes is what the datagram writer writes for the same fields, and reads back: the spares are packets, since
 -- as many were sent, and no message is longer than a packet. Assumes nothing.
+use Rattle.std.proofs.Common.{Ok}
 use Prim.Native.Nat.{ℕ, suc, ◌+◌, ◌-◌, ◌%◌, ◌<◌, min}
 use mathlib.Core.Path.{◌≡◌, refl, sym, ap, ◌∙◌}
 use mathlib.Core.Bool.{true}
@@ -10,7 +11,6 @@ use borrow.Author.Tests.{le-leb, le-ltb, leb-true}
 use Rattle.octets.specs.ExclusiveOr.{longest}
 use Rattle.octets.proofs.Laws.{and_both, length-exclusive_or}
 use Rattle.length.specs.Answers.{done}
-use Rattle.length.specs.declared.Written.TheVariants as written
 use Rattle.length.specs.Length.{within}
 use Rattle.datagram.specs.Sizes.{packet_least, packet_limit, message_limit, spares_limit}
 use Rattle.datagram.specs.Carried.{Extra}
@@ -94,7 +94,7 @@ extra-next (settings.Spares k) session = refl
 extra-next (settings.Parity n m) session = refl
 
 module _ {s : Sender} {settings : Settings} {packet old new : List ℕ} {r : Sent} {n : ℕ} (arrays : Arrays s.sizes s.octets)
-    (sends : Sends s settings packet old new r) (e : r.answer ≡ written.Octets n) where
+    (sends : Sends s settings packet old new r) (e : r.answer ≡ Ok n) where
   fit : Fit packet (kind_asked settings) (items_next settings (sending_of s))
   fit =
       let says = sent-says sends e in

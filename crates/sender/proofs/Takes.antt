@@ -1,5 +1,6 @@
 -- A send that may be, with room for any datagram, is accepted: what it writes reads back, and so is within the datagram limit. Assumes
 -- nothing.
+use Rattle.std.proofs.Common.{Result, Ok, Err}
 use Prim.Native.Nat.{ℕ, ◌%◌, ◌≤◌, ◌<◌}
 use mathlib.Core.Path.{◌≡◌, refl, ap, ◌∙◌}
 use mathlib.Core.Bool.{Bool, true, false, cond, not}
@@ -8,11 +9,10 @@ use lib.ListN.{length}
 use lib.Dec.{leb, ltb}
 use native.Mathlib.Omega.{arith}
 use borrow.Author.Tests.{le-leb, lt-leb, ltb-false}
+use Rattle.length.specs.declared.Refusal.{Refusal}
 use Rattle.length.specs.Refusals.{too_long, outside_ranges, all_passed, wrong_settings, outside_sizes, no_room}
 use Rattle.length.specs.Answers.{Answer, done, refuse, written_outcome, fitted, size_of}
 use Rattle.length.specs.Tables.{when, unless}
-use Rattle.length.specs.declared.Written.{Written}
-use Rattle.length.specs.declared.Written.TheVariants as written
 use Rattle.length.proofs.Laws.{cond-done}
 use Rattle.datagram.specs.Sizes.{datagram_limit}
 use Rattle.datagram.specs.Claims.{ReadsAs}
@@ -43,9 +43,9 @@ unfolding unless
 no_row b₁ b₂ b₃ b₄ octets e₁ e₂ e₃ e₄ = rw (e₁, e₂, e₃, e₄)
 
 -- an answer that is no refusal
-answered : (w : Written) {n : ℕ} → written_outcome w ≡ done n → (m : ℕ) × (w ≡ written.Octets m)
-answered (written.Octets m) e = (m, refl)
-answered (written.Refused why) e = let z : ◌≡◌ {A = ℕ} 0 1 = cc in absurd (omega arith)
+answered : (w : Result ℕ Refusal) {n : ℕ} → written_outcome w ≡ done n → (m : ℕ) × (w ≡ Ok m)
+answered (Ok m) e = (m, refl)
+answered (Err why) e = let z : ◌≡◌ {A = ℕ} 0 1 = cc in absurd (omega arith)
 
 -- the octets of the next datagram
 abbrev next_octets : Sender → Settings → List ℕ → List ℕ
@@ -68,7 +68,7 @@ module _ (s : Sender) (settings : Settings) (packet : List ℕ) (proper : Proper
       proper.ranges (lt-leb session_limit s.sent free) inside newest
 
   pub send-takes : {old new : List ℕ} {r : Sent} → datagram_limit ≤ length old → Sends s settings packet old new r
-      → (n : ℕ) × (r.answer ≡ written.Octets n)
+      → (n : ℕ) × (r.answer ≡ Ok n)
   send-takes {old} {new} {r} room sends =
       let octets = next_octets s settings packet in
       let reads = next-reads in

@@ -2,6 +2,7 @@
 -- the history, and the ranges. Definitions only.
 use Rattle.std.specs.Prelude.{ℕ, ◌≡◌, true, false, List, [], ◌∷◌, ◌++◌, replicate}
 use Rattle.length.specs.Answers.{done, refuse, is_done, fitted}
+use Rattle.length.specs.Refusals.{numbered}
 use Rattle.sender.specs.Sending.{Sending, newest_place, fresh_sending, sent_on}
 use Rattle.sender.specs.Sender.{history_octets, history_slot, packet_in}
 use Rattle.sender.specs.Send.{datagram_to_send}
@@ -56,29 +57,29 @@ pub record DatagramCases : Type 0 where
 -- where more than one refusal applies, the case shows which one is given
 pub record RefusalCases : Type 0 where
   -- 17 before 16, 15 and 4 (rule 15.8)
-  pub ranges-first : to_send past_limit (settings.Spares 9) [] ≡ refuse 17
+  pub ranges-first : to_send past_limit (settings.Spares 9) [] ≡ refuse (numbered 17)
   -- 16 from 1,000,000 on, before 15 and before 4 (rules 15.8 and 15.10)
-  pub passed : datagram_to_send (settings.Spares 0) (0x06 ∷ []) (sent_many 1000000) ≡ refuse 16
-  pub passed-then-settings : datagram_to_send (settings.Spares 9) (0x06 ∷ []) (sent_many 1000000) ≡ refuse 16
-  pub passed-then-size : datagram_to_send (settings.Spares 0) [] (sent_many 1000000) ≡ refuse 16
+  pub passed : datagram_to_send (settings.Spares 0) (0x06 ∷ []) (sent_many 1000000) ≡ refuse (numbered 16)
+  pub passed-then-settings : datagram_to_send (settings.Spares 9) (0x06 ∷ []) (sent_many 1000000) ≡ refuse (numbered 16)
+  pub passed-then-size : datagram_to_send (settings.Spares 0) [] (sent_many 1000000) ≡ refuse (numbered 16)
   -- 15 for k over 8, n not 1 to 8 and m not 1 to 4, before 4 (rules 1.3 to 1.5 and 15.9)
-  pub settings-then-size : datagram_to_send (settings.Spares 9) [] fresh_sending ≡ refuse 15
+  pub settings-then-size : datagram_to_send (settings.Spares 9) [] fresh_sending ≡ refuse (numbered 15)
   pub k-8 : is_done (datagram_to_send (settings.Spares 8) (0x06 ∷ []) fresh_sending) ≡ true
-  pub k-9 : datagram_to_send (settings.Spares 9) (0x06 ∷ []) fresh_sending ≡ refuse 15
-  pub n-0 : datagram_to_send (settings.Parity 0 1) (0x06 ∷ []) fresh_sending ≡ refuse 15
+  pub k-9 : datagram_to_send (settings.Spares 9) (0x06 ∷ []) fresh_sending ≡ refuse (numbered 15)
+  pub n-0 : datagram_to_send (settings.Parity 0 1) (0x06 ∷ []) fresh_sending ≡ refuse (numbered 15)
   pub n-1 : is_done (datagram_to_send (settings.Parity 1 1) (0x06 ∷ []) fresh_sending) ≡ true
   pub n-8 : is_done (datagram_to_send (settings.Parity 8 1) (0x06 ∷ []) fresh_sending) ≡ true
-  pub n-9 : datagram_to_send (settings.Parity 9 1) (0x06 ∷ []) fresh_sending ≡ refuse 15
-  pub m-0 : datagram_to_send (settings.Parity 1 0) (0x06 ∷ []) fresh_sending ≡ refuse 15
+  pub n-9 : datagram_to_send (settings.Parity 9 1) (0x06 ∷ []) fresh_sending ≡ refuse (numbered 15)
+  pub m-0 : datagram_to_send (settings.Parity 1 0) (0x06 ∷ []) fresh_sending ≡ refuse (numbered 15)
   pub m-4 : is_done (datagram_to_send (settings.Parity 1 4) (0x06 ∷ []) fresh_sending) ≡ true
-  pub m-5 : datagram_to_send (settings.Parity 1 5) (0x06 ∷ []) fresh_sending ≡ refuse 15
+  pub m-5 : datagram_to_send (settings.Parity 1 5) (0x06 ∷ []) fresh_sending ≡ refuse (numbered 15)
   -- 4 for an empty packet and for one of 257 octets (rules 4.19 and 15.9), before 13 (rule 15.8)
-  pub packet-0 : datagram_to_send (settings.Spares 0) [] fresh_sending ≡ refuse 4
+  pub packet-0 : datagram_to_send (settings.Spares 0) [] fresh_sending ≡ refuse (numbered 4)
   pub packet-256 : is_done (datagram_to_send (settings.Spares 0) (replicate 256 0) fresh_sending) ≡ true
-  pub packet-257 : datagram_to_send (settings.Spares 0) (replicate 257 0) fresh_sending ≡ refuse 4
-  pub size-then-room : fitted (datagram_to_send (settings.Spares 0) [] fresh_sending) [] ≡ refuse 4
+  pub packet-257 : datagram_to_send (settings.Spares 0) (replicate 257 0) fresh_sending ≡ refuse (numbered 4)
+  pub size-then-room : fitted (datagram_to_send (settings.Spares 0) [] fresh_sending) [] ≡ refuse (numbered 4)
   -- 13 if the datagram, here of six octets, is longer than the buffer (rules 2.13 and 15.8)
-  pub room-5 : fitted (datagram_to_send (settings.Spares 0) (0x06 ∷ []) fresh_sending) (replicate 5 0) ≡ refuse 13
+  pub room-5 : fitted (datagram_to_send (settings.Spares 0) (0x06 ∷ []) fresh_sending) (replicate 5 0) ≡ refuse (numbered 13)
   pub room-6 : is_done (fitted (datagram_to_send (settings.Spares 0) (0x06 ∷ []) fresh_sending) (replicate 6 0)) ≡ true
 
 pub record HistoryCases : Type 0 where

@@ -1,8 +1,7 @@
 -- The claims about a sending session (rules 4.20, 15.15 and 28.14). Statements only.
-use Rattle.std.specs.Prelude.{ℕ, ◌%◌, ◌≡◌, Bool, length, take}
+use Rattle.std.specs.Prelude.{ℕ, ◌%◌, ◌≡◌, Bool, length, take, Ok}
 use mathlib.Core.List.{List, map, flatten}
 use Rattle.length.specs.Answers.{done}
-use Rattle.length.specs.declared.Written.TheVariants as written
 use Rattle.datagram.specs.Write.{datagram_to_write}
 use Rattle.datagram.specs.Claims.{ReadsAs}
 use Rattle.session.specs.View.{numbers}
@@ -25,13 +24,13 @@ pub record WrittenRight : Type 0 where
   -- a send writes to the front of the buffer what the datagram writer writes for that number, packet, and spares or messages
   -- (rule 15.2)
   pub writer : {s : Sender} {settings : Settings} {packet old new : List ℕ} {r : Sent} {n : ℕ} → Arrays s.sizes s.octets
-      → Sends s settings packet old new r → r.answer ≡ written.Octets n
+      → Sends s settings packet old new r → r.answer ≡ Ok n
       → datagram_to_write (s.sent % numbers) packet (kind_asked settings) (map length (items_next settings (sending_of s)))
       (flatten (items_next settings (sending_of s)))
       ≡ done (take n new)
   -- and it reads back as a datagram that carries them (rule 4.20)
   pub reads : {s : Sender} {settings : Settings} {packet old new : List ℕ} {r : Sent} {n : ℕ} → Arrays s.sizes s.octets
-      → Sends s settings packet old new r → r.answer ≡ written.Octets n → ReadsAs (take n new) (carried_next settings packet (sending_of s))
+      → Sends s settings packet old new r → r.answer ≡ Ok n → ReadsAs (take n new) (carried_next settings packet (sending_of s))
 
 -- ---- chains of sends from a fresh session, with settings free at each
 

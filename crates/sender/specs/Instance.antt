@@ -1,7 +1,6 @@
 -- The claims of an honest sender and of chains of sends are not empty (rules 15.14 and 15.15): two packets and their datagrams, in octets,
 -- and a first send, whatever it returns. Statements only.
-use Rattle.std.specs.Prelude.{ℕ, ◌≤◌, ◌≡◌, List, [], ◌∷◌, length, take}
-use Rattle.length.specs.declared.Written.TheVariants as written
+use Rattle.std.specs.Prelude.{ℕ, ◌≤◌, ◌≡◌, List, [], ◌∷◌, length, take, Ok}
 use Rattle.sender.specs.Promise.{SenderMade, Sends}
 use Rattle.sender.specs.Honest.{HonestSender}
 use Rattle.sender.specs.Run.{Run}
@@ -25,7 +24,7 @@ second_datagram = 0x00 ∷ 0x01 ∷ 0x02 ∷ 0xC0 ∷ 0x01 ∷ 0x00 ∷ 0x01 ∷
 -- a send that was done as the first of a chain
 pub record FirstSend (r : Sent) (new : List ℕ) : Type 0 where
   pub size : ℕ
-  pub answer : r.answer ≡ written.Octets size
+  pub answer : r.answer ≡ Ok size
   pub octets : take size new ≡ first_datagram
   pub run : Run r.sender (first_packet ∷ []) (first_datagram ∷ [])
   pub honest : HonestSender (first_packet ∷ []) (first_datagram ∷ [])

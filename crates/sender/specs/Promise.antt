@@ -5,6 +5,7 @@ use Rattle.std.proofs.Math.Option.{Option}
 use Rattle.length.specs.Refusals.{outside_ranges}
 use Rattle.length.specs.Answers.{Answer, done, refused, written_outcome, fitted, size_of, over}
 use Rattle.length.specs.Tables.{when, unless}
+use Rattle.length.specs.declared.Reason.{Reason}
 use Rattle.datagram.specs.Write.{datagram_octets}
 use Rattle.sender.specs.Sending.{fresh_sending, sent_on}
 use Rattle.sender.specs.Send.{carried_next, send_rows}
@@ -30,7 +31,7 @@ pub record RangesTold (s : Sender) (r : Bool) : Type 0 where
   pub answer : r ≡ sender_in_ranges s
 
 -- the refusals of a send in order, 17, 16, 15, 4 (rule 15.8), without 13, and what it writes if none of them applies
-abbrev pub sender_rows : Sender → Settings → List ℕ → List (Option ℕ)
+abbrev pub sender_rows : Sender → Settings → List ℕ → List (Option Reason)
 sender_rows s settings packet = when (not (sender_in_ranges s)) outside_ranges ∷ send_rows settings packet (sending_of s)
 
 unfoldable pub to_send : Sender → Settings → List ℕ → Answer (List ℕ)

@@ -1,8 +1,7 @@
 -- A chain of sends (rule 15.15): the first takes a fresh session, each other one the session that the send before it returned,
 -- with any packet, settings and buffer. Definitions only.
-use Rattle.std.specs.Prelude.{ℕ, ◌≡◌, List, [], ◌∷◌, ◌++◌, take}
+use Rattle.std.specs.Prelude.{ℕ, ◌≡◌, List, [], ◌∷◌, ◌++◌, take, Ok, Err}
 use Rattle.length.specs.declared.Refusal.{Refusal}
-use Rattle.length.specs.declared.Written.TheVariants as written
 use Rattle.sender.specs.Promise.{SenderMade, Sends}
 use Rattle.sender.specs.declared.Sender.{Sender}
 use Rattle.sender.specs.declared.Sent.{Sent}
@@ -12,7 +11,7 @@ use Rattle.sender.specs.declared.Settings.{Settings}
 pub data Run : Sender → List (List ℕ) → List (List ℕ) → Type 0 where
   fresh : {s : Sender} → SenderMade s → Run s [] []
   sent : {s : Sender} {row datagrams : List (List ℕ)} {settings : Settings} {packet old new : List ℕ} {r : Sent} {n : ℕ}
-      → Run s row datagrams → Sends s settings packet old new r → r.answer ≡ written.Octets n
+      → Run s row datagrams → Sends s settings packet old new r → r.answer ≡ Ok n
       → Run r.sender (row ++ (packet ∷ [])) (datagrams ++ (take n new ∷ []))
   refused : {s : Sender} {row datagrams : List (List ℕ)} {settings : Settings} {packet old new : List ℕ} {r : Sent} {why : Refusal}
-      → Run s row datagrams → Sends s settings packet old new r → r.answer ≡ written.Refused why → Run r.sender row datagrams
+      → Run s row datagrams → Sends s settings packet old new r → r.answer ≡ Err why → Run r.sender row datagrams

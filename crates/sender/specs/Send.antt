@@ -6,6 +6,7 @@ use Rattle.length.specs.Refusals.{outside_sizes, wrong_settings, all_passed}
 use Rattle.length.specs.Answers.{Answer}
 use Rattle.length.specs.Tables.{when, unless}
 use Rattle.length.specs.Length.{within}
+use Rattle.length.specs.declared.Reason.{Reason}
 use Rattle.datagram.specs.Sizes.{packet_least, packet_limit}
 use Rattle.datagram.specs.Carried.{Carried}
 use Rattle.datagram.specs.Write.{datagram_octets}
@@ -27,7 +28,7 @@ abbrev pub packet_inside : List ℕ → Bool
 packet_inside packet = within packet_least packet_limit (length packet)
 
 -- the refusals of a send within the ranges, in order: 16, 15, 4 (rules 15.8 to 15.10); and what it writes if none of them applies
-abbrev pub send_rows : Settings → List ℕ → Sending → List (Option ℕ)
+abbrev pub send_rows : Settings → List ℕ → Sending → List (Option Reason)
 send_rows settings packet s =
     when (leb session_limit s.sent) all_passed
     ∷ when (not (settings_inside settings)) wrong_settings

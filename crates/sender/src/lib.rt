@@ -8,7 +8,7 @@ ghost use Rattle.sender.specs.Sender.{history_octets};
 ghost use Rattle.sender.specs.Promise.{SenderMade};
 
 use datagram::Packet;
-use length::Written;
+use length::Refusal;
 use session_held::Session;
 
 // Beside its packet a datagram carries k spares, or m messages over n packets each (rule 15.2).
@@ -33,7 +33,7 @@ pub struct Sender {
 #[derive(Drop)]
 pub struct Sent {
     pub sender: Sender,
-    pub answer: Written,
+    pub answer: Result<usize, Refusal>,
 }
 
 impl Sender {

@@ -1,23 +1,19 @@
 -- A send, in the words of the code: one law for each answer. Assumes nothing.
+use Rattle.std.proofs.Common.{Result, Ok, Err}
 use Prim.Native.Nat.{ℕ, ◌%◌, ◌≤◌, ◌<◌}
 use mathlib.Core.Path.{◌≡◌, refl, sym, ap, ◌∙◌}
 use mathlib.Core.Bool.{Bool, true, false, not}
 use mathlib.Core.List.{List}
 use lib.ListN.{length}
-use lib.Dec.{leb}
-use native.Mathlib.Omega.{arith}
 use borrow.Author.Tests.{le-leb, lt-leb, not-true, not-false}
 use Rattle.length.specs.Refusals.{outside_sizes, wrong_settings, all_passed}
-use Rattle.length.specs.Answers.{done, refused, fitted, size_of}
+use Rattle.length.specs.Answers.{done, fitted, size_of}
 use Rattle.length.specs.Tables.{unless}
 use Rattle.length.specs.Promise.{Puts, RefusalMade}
 use Rattle.length.specs.declared.Refusal.{Refusal}
-use Rattle.length.specs.declared.Written.{Written}
-use Rattle.length.specs.declared.Written.TheVariants as written
 use Rattle.datagram.specs.Sizes.{packet_limit}
-use Rattle.datagram.specs.Write.{count_inside, datagram_octets}
+use Rattle.datagram.specs.Write.{datagram_octets}
 use Rattle.datagram.specs.declared.kind.Kind.{Kind}
-use Rattle.datagram.specs.declared.kind.Kind.TheVariants as kind
 use Rattle.session.specs.View.{numbers, session_limit}
 use Rattle.sender.specs.Sending.{history_kept}
 use Rattle.sender.specs.Carries.{settings_inside, carried_from}
@@ -30,40 +26,6 @@ use Rattle.sender.specs.declared.Settings.{Settings}
 use Rattle.sender.specs.declared.Settings.TheVariants as settings
 use Rattle.sender.proofs.Laws.{history-number, count-inside, stored_of, packet-fits, size-done, accepted}
 
--- ---- the settings
-module _ (s : Settings) where
-  pub inside-spares : {k : ℕ} {r : Bool} → s ≡ settings.Spares k → r ≡ count_inside kind.Spares k → r ≡ settings_inside s
-  inside-spares e found = rw e found
-
-  pub inside-parity : {n m : ℕ} {r : Bool} → s ≡ settings.Parity n m → r ≡ count_inside (kind.Parity n) m → r ≡ settings_inside s
-  inside-parity e found = rw e found
-
-  pub kind-spares : {k : ℕ} → s ≡ settings.Spares k → kind.Spares ≡ kind_asked s
-  kind-spares e = rw e
-
-  pub kind-parity : {n m : ℕ} → s ≡ settings.Parity n m → kind.Parity n ≡ kind_asked s
-  kind-parity e = rw e
-
-  pub count-sent : (sent : ℕ) {k : ℕ} → s ≡ settings.Spares k → sent < k → sent ≡ count_of s sent
-  count-sent sent e fewer = rw e (omega arith)
-
-  pub count-asked : (sent : ℕ) {k : ℕ} → s ≡ settings.Spares k → k ≤ sent → k ≡ count_of s sent
-  count-asked sent e enough = rw e (omega arith)
-
-  pub count-messages : (sent : ℕ) {n m : ℕ} → s ≡ settings.Parity n m → m ≡ count_of s sent
-  count-messages sent e = rw e
-
-pub ruleset settingses = (inside-spares, inside-parity, kind-spares, kind-parity, count-sent, count-asked, count-messages)
-
--- ---- packet_inside
-pub packet-none : (packet : List ℕ) → length packet < 1 → false ≡ packet_inside packet
-packet-none packet none = rw (lt-leb 1 (length packet) none)
-
-pub packet-some : (packet : List ℕ) → 1 ≤ length packet → leb (length packet) packet_limit ≡ packet_inside packet
-packet-some packet some = rw (le-leb 1 (length packet) some)
-
-pub ruleset packets = (packet-none, packet-some)
-
 -- ---- write_held
 -- what the next datagram carries, in the words of the rules and in those of the code
 carried_same : (s : Settings) (sent : ℕ) (packet sizes o : List ℕ)
@@ -75,12 +37,12 @@ carried_same (settings.Parity n m) sent packet sizes o =
 
 module _ (s : Settings) (sent : ℕ) (packet sizes o old : List ℕ) where
   pub held_all : {r : Refusal} → RefusalMade all_passed r → session_limit ≤ sent
-      → Puts (datagram_to_send s packet (sending_in sent sizes o)) old old (written.Refused r)
+      → Puts (datagram_to_send s packet (sending_in sent sizes o)) old old (Err r)
   unfolding datagram_to_send unless
   held_all made all = let e = le-leb session_limit sent all in record { answer = rw (e, made.answer); lent = rw e }
 
   pub held-settings : {b : Bool} {r : Refusal} → RefusalMade wrong_settings r → sent < session_limit → b ≡ settings_inside s → not b ≡ true
-      → Puts (datagram_to_send s packet (sending_in sent sizes o)) old old (written.Refused r)
+      → Puts (datagram_to_send s packet (sending_in sent sizes o)) old old (Err r)
   unfolding datagram_to_send unless
   held-settings {b} made free found out =
       let e = lt-leb session_limit sent free in
@@ -88,7 +50,7 @@ module _ (s : Settings) (sent : ℕ) (packet sizes o old : List ℕ) where
       record { answer = rw (e, wrong, made.answer); lent = rw (e, wrong) }
 
   pub held-packet : {b d : Bool} {r : Refusal} → RefusalMade outside_sizes r → sent < session_limit → b ≡ settings_inside s → not b ≡ false
-      → d ≡ packet_inside packet → not d ≡ true → Puts (datagram_to_send s packet (sending_in sent sizes o)) old old (written.Refused r)
+      → d ≡ packet_inside packet → not d ≡ true → Puts (datagram_to_send s packet (sending_in sent sizes o)) old old (Err r)
   unfolding datagram_to_send unless
   held-packet {b} {d} made free found in' told out =
       let e = lt-leb session_limit sent free in
@@ -96,7 +58,7 @@ module _ (s : Settings) (sent : ℕ) (packet sizes o old : List ℕ) where
       let wrong : packet_inside packet ≡ false = sym told ∙ not-true d out in
       record { answer = rw (e, right, wrong, made.answer); lent = rw (e, right, wrong) }
 
-  pub held-written : {b d : Bool} {number : ℕ} {k : Kind} {count : ℕ} {new : List ℕ} {r : Written} → sent < session_limit
+  pub held-written : {b d : Bool} {number : ℕ} {k : Kind} {count : ℕ} {new : List ℕ} {r : Result ℕ Refusal} → sent < session_limit
       → b ≡ settings_inside s
       → not b ≡ false → d ≡ packet_inside packet → not d ≡ false → number ≡ sent % numbers → k ≡ kind_asked s → count ≡ count_of s sent
       → Puts (done (datagram_octets (carried_in number sizes o packet k count))) old new r
@@ -122,21 +84,21 @@ held-asked s sent packet sizes o {b} {d} within found in' told in'' kind-is coun
 pub ruleset helds = (held_all, held-settings, held-packet, held-written)
 
 -- ---- send_held
-module _ (s : Settings) (sent : ℕ) (packet sizes o old : List ℕ) {new : List ℕ} {answer : Written} where
-  pub packet-kept : {n : ℕ} → answer ≡ written.Octets n → Puts (datagram_to_send s packet (sending_in sent sizes o)) old new answer
+module _ (s : Settings) (sent : ℕ) (packet sizes o old : List ℕ) {new : List ℕ} {answer : Result ℕ Refusal} where
+  pub packet-kept : {n : ℕ} → answer ≡ Ok n → Puts (datagram_to_send s packet (sending_in sent sizes o)) old new answer
       → length packet ≤ packet_limit
   packet-kept {n} e p =
       let told : done n ≡ size_of (fitted (datagram_to_send s packet (sending_in sent sizes o)) old) = rw e at p.answer in
       let t = size-done (fitted (datagram_to_send s packet (sending_in sent sizes o)) old) told in
       packet-fits packet (accepted s packet (sending_in sent sizes o) old t.0 t.1).newest
 
-  pub held_kept : {n number : ℕ} {sizes' o' : List ℕ} → answer ≡ written.Octets n
+  pub held_kept : {n number : ℕ} {sizes' o' : List ℕ} → answer ≡ Ok n
       → Puts (datagram_to_send s packet (sending_in sent sizes o)) old new answer → number ≡ sent % numbers
-      → Joins number packet sizes o sizes' o' → SendsHeld sent s packet sizes o old sizes' o' new (written.Octets n)
+      → Joins number packet sizes o sizes' o' → SendsHeld sent s packet sizes o old sizes' o' new (Ok n)
   held_kept e p number_is keeps = record { puts = rw e at p; history = rw number_is at keeps }
 
-  pub held-refused : {r : Refusal} → answer ≡ written.Refused r → Puts (datagram_to_send s packet (sending_in sent sizes o)) old new answer
-      → SendsHeld sent s packet sizes o old sizes o new (written.Refused r)
+  pub held-refused : {r : Refusal} → answer ≡ Err r → Puts (datagram_to_send s packet (sending_in sent sizes o)) old new answer
+      → SendsHeld sent s packet sizes o old sizes o new (Err r)
   held-refused e p = record { puts = rw e at p; history = (refl, refl) }
 
 pub ruleset keepings = (held_kept, held-refused)

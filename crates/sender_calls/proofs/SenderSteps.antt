@@ -1,16 +1,15 @@
 -- The public call, in the words of the code: one law for each answer of a send. Assumes nothing.
+use Rattle.std.proofs.Common.{Result, Ok, Err}
 use Prim.Native.Nat.{ℕ, ◌+◌, ◌%◌, ◌≤◌}
 use mathlib.Core.Path.{◌≡◌, refl, sym, ap, ◌∙◌}
 use mathlib.Core.Bool.{Bool, true, false, not}
 use mathlib.Core.List.{List}
 use borrow.Author.Tests.{leb-true, not-true, not-false}
 use Rattle.length.specs.Refusals.{outside_ranges}
-use Rattle.length.specs.Answers.{done, refused, fitted}
+use Rattle.length.specs.Answers.{fitted}
 use Rattle.length.specs.Tables.{unless}
 use Rattle.length.specs.Promise.{RefusalMade}
 use Rattle.length.specs.declared.Refusal.{Refusal}
-use Rattle.length.specs.declared.Written.{Written}
-use Rattle.length.specs.declared.Written.TheVariants as written
 use Rattle.session.specs.View.{numbers, session_limit}
 use Rattle.sender.specs.Sending.{sent_on}
 use Rattle.sender.specs.Send.{datagram_to_send}
@@ -44,9 +43,9 @@ module _ (s : Sender) (settings : Settings) (packet old : List ℕ) where
   unfolding to_send datagram_to_send unless
   inside within = rw within.ranges
 
-  module _ {sizes o new : List ℕ} {answer : Written} (within : Within s.sent s.sizes s.octets)
+  module _ {sizes o new : List ℕ} {answer : Result ℕ Refusal} (within : Within s.sent s.sizes s.octets)
       (sends : SendsHeld s.sent settings packet s.sizes s.octets old sizes o new answer) where
-    pub sends-refused : {why : Refusal} {r : Sent} → RefusedSend s why r → answer ≡ written.Refused why → Sends s settings packet old new r
+    pub sends-refused : {why : Refusal} {r : Sent} → RefusedSend s why r → answer ≡ Err why → Sends s settings packet old new r
     sends-refused {why} {r} same e =
         let puts = rw e at sends.puts in
         let none = size-refused (fitted (datagram_to_send settings packet (sending_of s)) old) puts.answer in
@@ -56,14 +55,14 @@ module _ (s : Sender) (settings : Settings) (packet old : List ℕ) where
           state = rw (inside within, none) refl;
         })
 
-    joined : (n : ℕ) → answer ≡ written.Octets n → Joins (s.sent % numbers) packet s.sizes s.octets sizes o
+    joined : (n : ℕ) → answer ≡ Ok n → Joins (s.sent % numbers) packet s.sizes s.octets sizes o
     joined n e = rw e at sends.history
 
-    pub sends-kept : {n : ℕ} → answer ≡ written.Octets n
+    pub sends-kept : {n : ℕ} → answer ≡ Ok n
         → Sends s settings packet old new (record {
           sender = record
               { sent = s.sent + 1; sizes = sizes; octets = o };
-          answer = written.Octets n;
+          answer = Ok n;
         })
     unfolding sent_on
     sends-kept {n} e =

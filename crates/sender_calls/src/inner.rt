@@ -10,9 +10,9 @@ ghost use Rattle.sender.specs.Inner.Next.{kind_asked, count_of};
 ghost use Rattle.sender_calls.specs.Inner.{SendsHeld};
 
 use datagram::{Kind, Packet, count_inside};
-use length::{Refusal, Written};
+use length::{Reason, Refusal};
 use sender::{Sender, Settings};
-use sender_history::{keep, write_next};
+use sender_history::{History, keep};
 
 // ---- the settings
 
@@ -20,8 +20,8 @@ fn settings_inside(settings: Settings) -> bool
     ensures { result ≡ settings_inside settings }
 {
     match settings {
-        Settings::Spares(k) => count_inside(Kind::Spares, k as usize),
-        Settings::Parity { n, m } => count_inside(Kind::Parity(n as usize), m as usize),
+        Settings::Spares(k) => count_inside(Kind::Spares, usize::from(k)),
+        Settings::Parity { n, m } => count_inside(Kind::Parity(usize::from(n)), usize::from(m)),
     }
 }
 
@@ -30,7 +30,7 @@ fn kind_of(settings: Settings) -> Kind
 {
     match settings {
         Settings::Spares(_) => Kind::Spares,
-        Settings::Parity { n, m: _ } => Kind::Parity(n as usize),
+        Settings::Parity { n, .. } => Kind::Parity(usize::from(n)),
     }
 }
 
@@ -39,14 +39,8 @@ fn count_of(settings: Settings, sent: usize) -> usize
     ensures { result ≡ count_of settings sent }
 {
     match settings {
-        Settings::Spares(k) => {
-            let asked = k as usize;
-            if sent < asked {
-                return sent;
-            }
-            asked
-        }
-        Settings::Parity { n: _, m } => m as usize,
+        Settings::Spares(k) => usize::from(k).min(sent),
+        Settings::Parity { m, .. } => usize::from(m),
     }
 }
 
@@ -62,10 +56,7 @@ fn number_of(sent: usize) -> u16
 fn packet_inside(packet: &[u8]) -> bool
     ensures { result ≡ packet_inside packet.now }
 {
-    if packet.len() < Packet::LEAST {
-        return false;
-    }
-    packet.len() <= Packet::LIMIT
+    Packet::LEAST <= packet.len() && packet.len() <= Packet::LIMIT
 }
 
 // Refuses 16, 15, 4 or 13, in this order (rule 15.8), or writes the datagram.
@@ -76,24 +67,26 @@ fn write_held(
     packet: &[u8],
     settings: Settings,
     out: &mut [u8],
-) -> Written
+) -> Result<usize, Refusal>
     requires { Within sent sizes.now octets.now }
     ensures { Puts (datagram_to_send settings packet.now (sending_in sent sizes.now octets.now))
         out.old out.new result }
 {
     if Sender::LIMIT <= sent {
-        return Written::Refused(Refusal::new(Refusal::ALL_PASSED));
+        return Err(Refusal::new(Reason::AllPassed));
     }
     if !settings_inside(settings) {
-        return Written::Refused(Refusal::new(Refusal::WRONG_SETTINGS));
+        return Err(Refusal::new(Reason::WrongSettings));
     }
     if !packet_inside(packet) {
-        return Written::Refused(Refusal::new(Refusal::OUTSIDE_SIZES));
+        return Err(Refusal::new(Reason::OutsideSizes));
     }
-    let number = number_of(sent);
-    let kind = kind_of(settings);
-    let count = count_of(settings, sent);
-    write_next(number, sizes, octets, packet, kind, count, out)
+    let history = History {
+        number: number_of(sent),
+        sizes,
+        octets,
+    };
+    history.write_next(packet, kind_of(settings), count_of(settings, sent), out)
 }
 
 // Writes the datagram and puts the packet into the history (rule 15.12). A refusal changes nothing (rule 15.11).
@@ -104,17 +97,12 @@ pub fn send_held(
     packet: &[u8],
     settings: Settings,
     out: &mut [u8],
-) -> Written
+) -> Result<usize, Refusal>
     requires { Within sent sizes.old octets.old }
     ensures { SendsHeld sent settings packet.now sizes.old octets.old out.old
         sizes.new octets.new out.new result }
 {
-    let answer = write_held(sent, sizes, octets, packet, settings, out);
-    match answer {
-        Written::Octets(n) => {
-            keep(number_of(sent), packet, sizes, octets);
-            Written::Octets(n)
-        }
-        Written::Refused(r) => Written::Refused(r),
-    }
+    let n = write_held(sent, sizes, octets, packet, settings, out)?;
+    keep(number_of(sent), packet, sizes, octets);
+    Ok(n)
 }

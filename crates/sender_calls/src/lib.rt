@@ -7,17 +7,14 @@ ghost use Rattle.sender.specs.Promise.{RangesTold, Sends};
 ghost use Rattle.sender_calls.specs.Inner.{RefusedSend};
 
 pub use inner::send_held;
-use length::{Refusal, Written};
+use length::{Reason, Refusal};
 use sender::{Sender, Sent, Settings};
 
 // Whether a session is within its ranges (rule 15.13).
 pub fn in_ranges(s: Sender) -> bool
     ensures { RangesTold s result }
 {
-    let sent = s.sent as usize;
-    let sizes = s.sizes;
-    let octets = s.octets;
-    sender_history::in_ranges(sent, &sizes, &octets)
+    sender_history::in_ranges(s.sent as usize, &s.sizes, &s.octets)
 }
 
 // A refusal returns the session unchanged (rule 15.11).
@@ -26,7 +23,7 @@ fn unchanged(s: Sender, why: Refusal) -> Sent
 {
     Sent {
         sender: s,
-        answer: Written::Refused(why),
+        answer: Err(why),
     }
 }
 
@@ -38,7 +35,7 @@ pub fn send(s: Sender, packet: &[u8], settings: Settings, out: &mut [u8]) -> Sen
     let mut sizes = s.sizes;
     let mut octets = s.octets;
     if !sender_history::in_ranges(sent, &sizes, &octets) {
-        return unchanged(s, Refusal::new(Refusal::OUTSIDE_RANGES));
+        return unchanged(s, Refusal::new(Reason::OutsideRanges));
     }
     let answer = inner::send_held(sent, &mut sizes, &mut octets, packet, settings, out);
     let next = s.sent + 1;
@@ -48,10 +45,10 @@ pub fn send(s: Sender, packet: &[u8], settings: Settings, out: &mut [u8]) -> Sen
         octets,
     };
     match answer {
-        Written::Octets(n) => Sent {
+        Ok(n) => Sent {
             sender: moved,
-            answer: Written::Octets(n),
+            answer: Ok(n),
         },
-        Written::Refused(why) => unchanged(s, why),
+        Err(why) => unchanged(s, why),
     }
 }

@@ -1,17 +1,15 @@
 -- The next datagram, in the words of the code: one law for each answer, and for what each writer asks. Assumes nothing.
-use Rattle.std.proofs.Common.{◌≡◌, ℕ, ◌+◌, ◌-◌, ◌<◌, ◌≤◌, List, ◌++◌, length, sym, ◌∙◌, append_assoc, arith, length-append}
+use Rattle.std.proofs.Common.{◌≡◌, ℕ, ◌+◌, ◌-◌, ◌<◌, ◌≤◌, List, ◌++◌, length, sym, ◌∙◌, append_assoc, arith, length-append, Err}
 use borrow.Rule.Slice.PartMut.{mid_of, put_mid}
 use Rattle.length.specs.Refusals.{no_room}
 use Rattle.length.specs.Answers.{done}
 use Rattle.length.specs.Promise.{Puts, RefusalMade, Put}
 use Rattle.length.specs.declared.Refusal.{Refusal}
-use Rattle.length.specs.declared.Written.TheVariants as written
 use Rattle.length.proofs.Laws.{size-written, put_next, put-long, put-puts, full-puts, room-left}
 use Rattle.datagram.specs.Sizes.{datagram_limit}
 use Rattle.datagram.specs.Write.{number_octets, item_octets, items_octets, datagram_octets}
 use Rattle.datagram.specs.Inner.Heads.{FrontAsked, kind_head, front_octets, item_size}
 use Rattle.datagram.specs.declared.kind.Kind.{Kind}
-use Rattle.datagram.specs.declared.kind.Kind.TheVariants as kind
 use Rattle.datagram.proofs.Laws.{extra-form, count-few, n-fits, front_length, kind-bound}
 use Rattle.sender.specs.Inner.Items.{items_in, ItemsSize, ItemsAsked}
 use Rattle.sender.specs.Inner.Next.{carried_in, NextSizes, NextSize, NextAsked, NextRoom}
@@ -96,7 +94,7 @@ next-put number sizes o packet k count p q = rw (next-form number sizes o packet
 module _ {number : ℕ} {sizes o packet : List ℕ} {k : Kind} {count : ℕ} {old : List ℕ} {size : ℕ}
     (asked : NextAsked sizes o packet k count) (told : NextSize number sizes packet k count size) where
   pub next-full : {r : Refusal} → RefusalMade no_room r → length old < size
-      → Puts (done (datagram_octets (carried_in number sizes o packet k count))) old old (written.Refused r)
+      → Puts (done (datagram_octets (carried_in number sizes o packet k count))) old old (Err r)
   next-full made full = full-puts made (let same = told.answer o asked.stored in omega arith)
 
   pub next-room : size ≤ length old → NextRoom number sizes o packet k count old

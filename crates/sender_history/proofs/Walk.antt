@@ -1,6 +1,6 @@
 -- A walk over the members of a message, back by m at each turn, modulo 65,536: the number is at the place of the member.
 -- Assumes nothing.
-use Rattle.std.proofs.Common.{◌≡◌, ℕ, zero, suc, ◌+◌, ◌-◌, ◌*◌, ◌%◌, ◌^◌, ◌<◌, ◌≤◌, List, [], ◌∷◌, ◌++◌, map, sym, refl, ap, ◌∙◌, mul-le-mul_right, suc-mul, add-one, arith}
+use Rattle.std.proofs.Common.{◌≡◌, ℕ, suc, ◌+◌, ◌-◌, ◌*◌, ◌%◌, ◌<◌, ◌≤◌, List, [], ◌∷◌, ◌++◌, map, sym, ap, ◌∙◌, mul-le-mul_right, suc-mul, add-one, arith}
 use mathlib.Core.List.{map-append}
 use native.Mathlib.Nat.{mod-add-mod}
 use Rattle.octets.specs.Place.{tab}
@@ -41,6 +41,10 @@ step number i at r m q far back stands =
     ∙ ap (λ (k : ℕ). (k + history_kept) % numbers) back
     ∙ stands
     ∙ sym (ap (λ (k : ℕ). k % numbers) right))
+
+-- m less, modulo 65,536
+pub stepped-back : {n i : ℕ} (at m : ℕ) → Reach n m i → at < numbers → ((at + (numbers - m)) % numbers + m) % numbers ≡ at
+stepped-back at m reach small = let few = reach.messages in omega arith
 
 module _ {n m i : ℕ} (reach : Reach n m i) (number t : ℕ) (more : t < n) where
   pub place_inside : (history_kept + i) - suc t * m < history_kept

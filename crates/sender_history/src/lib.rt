@@ -6,5 +6,4 @@ mod items;
 mod next;
 mod slots;
 
-pub use next::write_next;
-pub use slots::{in_ranges, keep};
+pub use slots::{History, in_ranges, keep};

@@ -10,11 +10,20 @@ ghost use Rattle.sender.specs.Inner.Held.{Arrays, Joins};
 use datagram::Packet;
 use sender::Sender;
 
+// The stored history, and the number of the packet that is sent after it.
+#[derive(Drop)]
+#[derive(Clone, Copy)]
+pub struct History<'a> {
+    pub number: u16,
+    pub sizes: &'a [u16],
+    pub octets: &'a [u8],
+}
+
 // The slot of a number.
 pub fn slot_of(number: u16) -> usize
     ensures { result ≡ number % history_kept }
 {
-    (number as usize) % Sender::HISTORY
+    usize::from(number) % Sender::HISTORY
 }
 
 // How many octets the packet in a slot has.
@@ -22,7 +31,7 @@ pub fn size_in(sizes: &[u16], slot: usize) -> usize
     requires { slot < length sizes.now }
     ensures { result ≡ length_in sizes.now slot }
 {
-    octets::wide(sizes[slot])
+    usize::from(sizes[slot])
 }
 
 // ---- the ranges
@@ -32,12 +41,10 @@ fn size_right(at: usize, size: usize) -> bool
     ensures { result ≡ size_in_range at size }
 {
     if at < Sender::HISTORY {
-        return size == 0;
+        size == 0
+    } else {
+        Packet::LEAST <= size && size <= Packet::LIMIT
     }
-    if size < Packet::LEAST {
-        return false;
-    }
-    size <= Packet::LIMIT
 }
 
 // Whether the packet at place p is in range: its length, and zeros past it.
@@ -48,10 +55,7 @@ fn place_right(sent: usize, sizes: &[u16], octets: &[u8], p: usize, table: &[u8]
     let at = sent + p;
     let slot = at % Sender::HISTORY;
     let size = size_in(sizes, slot);
-    if !size_right(at, size) {
-        return false;
-    }
-    session_slots::zeros_past(octets, slot, size, table)
+    size_right(at, size) && session_slots::zeros_past(octets, slot, size, table)
 }
 
 // Whether the session is within its ranges (rule 15.13).
@@ -63,14 +67,12 @@ pub fn in_ranges(sent: usize, sizes: &[u16], octets: &[u8]) -> bool
         return false;
     }
     let table = session_slots::passing();
-    let mut ok = true;
-    let mut p = 0;
-    while p < Sender::HISTORY {
-        let right = place_right(sent, sizes, octets, p, &table);
-        ok = ok & right;
-        p += 1;
+    for p in 0..Sender::HISTORY {
+        if !place_right(sent, sizes, octets, p, &table) {
+            return false;
+        }
     }
-    ok
+    true
 }
 
 // ---- a packet joins

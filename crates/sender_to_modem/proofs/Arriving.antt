@@ -14,7 +14,7 @@ use Rattle.session.specs.View.{View, Counts, numbers}
 use Rattle.session_held.specs.Table.{view_of}
 use Rattle.session_held.specs.declared.Session.{Session}
 use Rattle.session_calls.specs.Receiver.{SeenAs, OfferOwes}
-use Rattle.session_calls.specs.declared.receiver.AfterOffer.{AfterOffer}
+use Rattle.session_calls.specs.declared.Returned.{Returned}
 use Rattle.sender_to_modem.specs.Marks.{Mark, arrives, lost, how_many_arrive, kind_by}
 use Rattle.sender_to_modem.specs.Transfer.{Delivered, delivered_as, Drained}
 use Rattle.sender_to_modem.specs.Sold.{NothingWaits}
@@ -28,7 +28,7 @@ use Rattle.sender_to_modem.proofs.Standing.{Stands, longer-line, longer-row, mod
 use Rattle.sender_to_modem.proofs.Standing.{offer-accepted}
 
 module _ {line : List Mark} {packets : List (List ℕ)} {t : Session} {modem : List Delivered} (stands : Stands line packets t modem)
-    {k : ℕ} {packet octets : List ℕ} (wrote : SentAs k packets packet octets) {o : AfterOffer} (owes : OfferOwes t octets o)
+    {k : ℕ} {packet octets : List ℕ} (wrote : SentAs k packets packet octets) {o : Returned (Unit {0})} (owes : OfferOwes t octets o)
     (near : pending line < kept_ahead) (enough : pending line ≤ k) where
   seen : SeenAs (after_offer stands wrote owes near) o.session
   seen = (offer-accepted stands wrote owes near).1

@@ -1,5 +1,6 @@
 -- What the sender of a transfer writes: the datagram of each packet carries the k packets before it, or as many as there are. Assumes
 -- nothing.
+use Rattle.std.proofs.Common.{Ok}
 use Prim.Native.Nat.{ℕ, suc, ◌+◌, ◌-◌, ◌≤◌, ◌<◌, min}
 use mathlib.Core.Path.{◌≡◌, sym, ap, subst, ◌∙◌}
 use mathlib.Core.List.{List, [], ◌∷◌, ◌++◌}
@@ -8,7 +9,6 @@ use lib.Seq.{get_or-append-add}
 use native.Mathlib.Omega.{arith}
 use borrow.Author.Tests.{leb-true}
 use Rattle.octets.proofs.Laws.{length-tab, tab-at}
-use Rattle.length.specs.declared.Written.TheVariants as written
 use Rattle.datagram.specs.Sizes.{spares_limit}
 use Rattle.datagram.specs.Claims.{ReadsAs}
 use Rattle.session.specs.View.{session_limit}
@@ -70,7 +70,7 @@ pub record SentAs (k : ℕ) (row : List (List ℕ)) (packet octets : List ℕ) :
   pub reads : ReadsAs octets (spares_at (length row) packet (copies_of k row))
 
 pub sent-as : {k : ℕ} {s : Sender} {row datagrams : List (List ℕ)} {packet old new : List ℕ} {r : Sent} {n : ℕ} → RunHolds s row datagrams
-    → Sends s (settings.Spares k) packet old new r → r.answer ≡ written.Octets n → SentAs k row packet (take n new)
+    → Sends s (settings.Spares k) packet old new r → r.answer ≡ Ok n → SentAs k row packet (take n new)
 sent-as {k} {s} {row} {datagrams} {packet} {old} {new} {r} {n} holds sends e =
     let allowed = (sent-says sends e).allowed in
     let count = ap (λ (z : Sending). z.sent) holds.state in

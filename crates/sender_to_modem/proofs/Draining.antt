@@ -1,5 +1,6 @@
 -- The receiver is drained: all that wait for their release leave, in order and as they stand, and are counted; then a release is refused.
 -- Assumes nothing.
+use Rattle.std.proofs.Common.{Result, Ok, Err}
 use Prim.Native.Nat.{ℕ, zero, suc, ◌+◌, ◌%◌, ◌≤◌, ◌<◌}
 use mathlib.Core.Path.{◌≡◌, refl, sym, ap, ap₂, subst, ◌∙◌}
 use mathlib.Core.List.{List, [], ◌∷◌}
@@ -18,7 +19,6 @@ use Rattle.session_held.specs.Laid.{InRanges}
 use Rattle.session_held.specs.declared.ReleaseKind.{ReleaseKind}
 use Rattle.session_held.specs.declared.Session.{Session}
 use Rattle.session_release.specs.declared.Released.{Released}
-use Rattle.session_release.specs.declared.Released.TheVariants as released
 use Rattle.session_calls.proofs.Laws.{release-refused, release-done, release-handed}
 use Rattle.sender_to_modem.specs.Transfer.{Delivered, delivered_as, Drained, ends, releases}
 use Rattle.sender_to_modem.proofs.Ready.{Ready, leaving, release-one, release-none, cell-on, ready_on}
@@ -44,8 +44,8 @@ pub record DrainsTo (q n : ℕ) (before : View) (more : List Delivered) (t : Ses
   pub counts : (view_of t).counts ≡ counts_on n (kinds_in before) before.counts
 
 -- an answer is a number or a refusal, and not both
-not-both : {r : Released} {kind : ReleaseKind} {number note size : ℕ} {why : Refusal} → r ≡ released.Number kind number note size
-    → r ≡ released.Refused why → ⊥
+not-both : {r : Result Released Refusal} {kind : ReleaseKind} {number note size : ℕ} {why : Refusal} → r ≡ Ok (record { kind = kind; number = number; note = note; size = size })
+    → r ≡ Err why → ⊥
 not-both e f = let z : ◌≡◌ {A = ℕ} 0 1 = cc in omega arith
 
 -- with an unknown base nothing leaves

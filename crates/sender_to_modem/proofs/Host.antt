@@ -1,11 +1,12 @@
 -- A host's calls make a transfer: as long as never more than k are lost in a row no send and no offer is refused, and k + 2 releases drain
 -- the receiver. Assumes nothing.
+use Rattle.length.specs.declared.Refusal.{Refusal}
+use Rattle.std.proofs.Common.{Result}
 use Prim.Native.Nat.{ℕ, zero, suc, ◌+◌, ◌≤◌, ◌<◌}
 use mathlib.Core.Path.{◌≡◌, refl, sym, subst, ◌∙◌}
 use mathlib.Core.List.{List, [], ◌∷◌, ◌++◌}
 use lib.ListN.{length, take, length-append}
 use native.Mathlib.Omega.{arith}
-use Rattle.length.specs.declared.Written.{Written}
 use Rattle.datagram.specs.Sizes.{spares_limit}
 use Rattle.session.specs.Cells.{kept_before, kept_ahead}
 use Rattle.session.specs.Reached.{Unknown}
@@ -94,7 +95,7 @@ transferred k few
     let many = as_many before.ran in
     let took = line-sold.takes k few _ before.ran (omega arith) newest room sends in
     let offers : OfferOwes t (take took.0 new) o =
-    subst (λ (w : Written). OfferOwes t (datagram_written w new) o) took.1 owes in
+    subst (λ (w : Result ℕ Refusal). OfferOwes t (datagram_written w new) o) took.1 owes in
     let stands = (holds before.ran good-before).stands in
     let wrote = sent-as (run_holds (sender-run before.ran).1) sends took.1 in
     let near : pending line < kept_ahead = omega arith in

@@ -14,7 +14,7 @@ use Rattle.session.specs.View.{View, numbers}
 use Rattle.session_held.specs.Table.{view_of}
 use Rattle.session_held.specs.declared.Session.{Session}
 use Rattle.session_calls.specs.Receiver.{SeenAs, OfferOwes}
-use Rattle.session_calls.specs.declared.receiver.AfterOffer.{AfterOffer}
+use Rattle.session_calls.specs.declared.Returned.{Returned}
 use Rattle.sender.proofs.Laws.{run_holds}
 use Rattle.sender_to_modem.specs.Marks.{Mark, arrives, lost}
 use Rattle.sender_to_modem.specs.Transfer.{Delivered, Drained, Transfer, begins, refuses, loses, brings}
@@ -56,7 +56,7 @@ not-lost e = let z : ◌≡◌ {A = ℕ} 0 1 = cc in omega arith
 
 -- ---- the datagram that arrives after k + 1 were lost
 module _ {line : List Mark} {packets : List (List ℕ)} {t : Session} {modem : List Delivered} (stands : Stands line packets t modem)
-    {k : ℕ} {packet octets : List ℕ} (wrote : SentAs k packets packet octets) {o : AfterOffer} (owes : OfferOwes t octets o)
+    {k : ℕ} {packet octets : List ℕ} (wrote : SentAs k packets packet octets) {o : Returned (Unit {0})} (owes : OfferOwes t octets o)
     (many : pending line ≡ one_more k) where
   near : pending line < kept_ahead
   near = omega (arith, wrote.few)

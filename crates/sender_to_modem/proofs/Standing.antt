@@ -1,5 +1,6 @@
 -- Where a transfer stands at each step, if never more than k were lost before an arrival: all up to the last arrival is with the modem, and
 -- nothing else is known. A lost datagram leaves it so; one that arrives brings those that were lost before it. Assumes nothing.
+use Rattle.std.proofs.Common.{Ok}
 use Prim.Native.Nat.{ℕ, ◌+◌, ◌%◌, ◌≤◌, ◌<◌}
 use mathlib.Core.Path.{◌≡◌, sym, ap, subst, ◌∙◌}
 use mathlib.Core.Logic.{⊎_elim}
@@ -15,9 +16,8 @@ use Rattle.session.specs.View.{View, numbers}
 use Rattle.session_held.specs.Table.{lent_by, view_of}
 use Rattle.session_held.specs.Laid.{InRanges}
 use Rattle.session_held.specs.declared.Session.{Session}
-use Rattle.session_offer.specs.declared.Offered.TheVariants.{Accepted}
 use Rattle.session_calls.specs.Receiver.{SeenAs, OfferOwes}
-use Rattle.session_calls.specs.declared.receiver.AfterOffer.{AfterOffer}
+use Rattle.session_calls.specs.declared.Returned.{Returned}
 use Rattle.session_calls.proofs.Laws.{offer-done}
 use Rattle.sender_to_modem.specs.Marks.{Mark, arrives, lost, how_many_arrive, how_many_lost}
 use Rattle.sender_to_modem.specs.Transfer.{Delivered}
@@ -90,7 +90,7 @@ stands-lost {line} {packets} {t} {modem} stands packet =
 
 -- ---- one that arrives, with as many lost before it as it has spares, or fewer
 module _ {line : List Mark} {packets : List (List ℕ)} {t : Session} {modem : List Delivered} (stands : Stands line packets t modem)
-    {k : ℕ} {packet octets : List ℕ} (wrote : SentAs k packets packet octets) {o : AfterOffer} (owes : OfferOwes t octets o) where
+    {k : ℕ} {packet octets : List ℕ} (wrote : SentAs k packets packet octets) {o : Returned (Unit {0})} (owes : OfferOwes t octets o) where
   pub row_is : length packets ≡ stands.left + pending line
   row_is = let marks = stands.marks in let sent = stands.sent in omega arith
 
@@ -102,7 +102,7 @@ module _ {line : List Mark} {packets : List (List ℕ)} {t : Session} {modem : L
     abbrev pub after_offer : View
     after_offer = view_with ((stands.left + pending line) % numbers) (pending line) packet (copies_of k packets) (view_of t)
 
-    pub offer-accepted : (o.answer ≡ Accepted) × SeenAs after_offer o.session
+    pub offer-accepted : (o.answer ≡ Ok tt) × SeenAs after_offer o.session
     offer-accepted =
         offer-done stands.within owes
         (offer-is stands.within.sound stands.ready near packet (copies_of k packets) copies-few

@@ -1,16 +1,14 @@
 -- What is sold, for customers who ask what k spares buy. The line is that of rule 23.1, and the receiver is drained after each arrival
 -- (rule 23.2). Then every packet is released once, in order, octet for octet (rule 23.3), none is lost (rule 23.4), after each arrival
 -- nothing that was sent up to it is still waiting (rule 23.5), and the two sides' totals agree (rule 23.6). Statements only.
-use Rattle.std.specs.Prelude.{ℕ, ◌+◌, ◌%◌, ◌≤◌, ◌<◌, ◌≡◌, true, length, take}
+use Rattle.std.specs.Prelude.{ℕ, ◌+◌, ◌%◌, ◌≤◌, ◌<◌, ◌≡◌, true, length, take, Ok}
 use mathlib.Core.List.{List, map, Memᴰ as Among}
 use Rattle.octets.specs.Place.{tab}
-use Rattle.length.specs.declared.Written.TheVariants as written
 use Rattle.datagram.specs.Sizes.{spares_limit, datagram_limit}
 use Rattle.session.specs.Cells.{kept_before, kept_numbers}
 use Rattle.session.specs.Reached.{Unknown}
 use Rattle.session.specs.View.{numbers, session_limit}
 use Rattle.session_held.specs.Table.{view_of}
-use Rattle.session_offer.specs.declared.Offered.TheVariants.{Accepted}
 use Rattle.sender.specs.Send.{packet_inside}
 use Rattle.sender.specs.Promise.{Sends}
 use Rattle.sender.specs.declared.Sent.{Sent}
@@ -21,7 +19,7 @@ use Rattle.sender_to_modem.specs.Transfer.{Delivered, AfterArrival, Transfer, Ra
 -- after each arrival nothing that was sent up to it is still waiting (rule 23.5)
 pub record NothingWaits (packets : List (List ℕ)) (a : AfterArrival) : Type 0 where
   -- its datagram was accepted
-  pub accepted : a.answer ≡ Accepted
+  pub accepted : a.answer ≡ Ok tt
   -- the modem has all that was sent up to it
   pub sent_by_then : a.sent ≤ length packets
   pub released : map (λ (d : Delivered). d.octets) a.modem ≡ take a.sent packets
@@ -60,4 +58,4 @@ pub record LineSold : Type 0 where
   pub takes : (k : ℕ) → k ≤ spares_limit → (x : Transfer) → Ran k x → length x.packets < session_limit
       → {packet old new : List ℕ} {r : Sent} → packet_inside packet ≡ true → datagram_limit ≤ length old
       → Sends x.sender (settings.Spares k) packet old new r
-      → (n : ℕ) × (r.answer ≡ written.Octets n)
+      → (n : ℕ) × (r.answer ≡ Ok n)

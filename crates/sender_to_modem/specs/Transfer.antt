@@ -1,24 +1,21 @@
 -- A transfer over the line (rules 23.1 and 23.2): one fresh sending session with the same k throughout, one fresh receiving session,
 -- datagrams in order, the receiver drained after each arrival, and nobody gives up a number. Each public call is made on the session that
 -- the call before returned, with any packet and any buffer, and may return anything that its promise allows. Definitions only.
-use Rattle.std.specs.Prelude.{ℕ, ◌≤◌, ◌≡◌, false, List, [], ◌∷◌, ◌++◌, length, take}
+use Rattle.std.specs.Prelude.{ℕ, ◌≤◌, ◌≡◌, false, List, [], ◌∷◌, ◌++◌, length, take, Result, Ok, Err}
+use Rattle.session_release.specs.declared.Released.{Released}
 use Rattle.length.specs.declared.Refusal.{Refusal}
-use Rattle.length.specs.declared.Written.TheVariants as written
 use Rattle.datagram.specs.Sizes.{packet_limit}
 use Rattle.session.specs.Cells.{State}
 use Rattle.session_held.specs.Table.{state_of}
 use Rattle.session_held.specs.Promise.{Fresh}
 use Rattle.session_held.specs.declared.ReleaseKind.{ReleaseKind}
 use Rattle.session_held.specs.declared.Session.{Session}
-use Rattle.session_release.specs.declared.Released.TheVariants as released
-use Rattle.session_offer.specs.declared.Offered.{Offered}
 use Rattle.sender.specs.Promise.{SenderMade, Sends}
 use Rattle.sender.specs.declared.Sender.{Sender}
 use Rattle.sender.specs.declared.Sent.{Sent}
 use Rattle.sender.specs.declared.Settings.TheVariants as settings
 use Rattle.session_calls.specs.Receiver.{OfferOwes, ReleaseOwes}
-use Rattle.session_calls.specs.declared.receiver.AfterOffer.{AfterOffer}
-use Rattle.session_calls.specs.declared.receiver.AfterRelease.{AfterRelease}
+use Rattle.session_calls.specs.declared.Returned.{Returned}
 use Rattle.sender_to_modem.specs.Marks.{Mark, arrives, lost}
 
 -- a number that was released, as the modem has it
@@ -33,11 +30,11 @@ delivered_as kind number octets = record { kind = kind; number = number; octets 
 -- the receiver is drained (rule 23.2): releases without leave to skip, each with a buffer large enough for any packet, until one is
 -- refused. What they release goes to the modem, from the front of the buffer
 pub data Drained : Session → List Delivered → Session → Type 0 where
-  ends : {s : Session} {old new : List ℕ} {r : AfterRelease} {why : Refusal} → packet_limit ≤ length old → ReleaseOwes s false old new r
-      → r.answer ≡ released.Refused why
+  ends : {s : Session} {old new : List ℕ} {r : Returned Released} {why : Refusal} → packet_limit ≤ length old → ReleaseOwes s false old new r
+      → r.answer ≡ Err why
       → Drained s [] r.session
-  releases : {s t : Session} {old new : List ℕ} {r : AfterRelease} {kind : ReleaseKind} {number note size : ℕ} {more : List Delivered}
-      → packet_limit ≤ length old → ReleaseOwes s false old new r → r.answer ≡ released.Number kind number note size
+  releases : {s t : Session} {old new : List ℕ} {r : Returned Released} {kind : ReleaseKind} {number note size : ℕ} {more : List Delivered}
+      → packet_limit ≤ length old → ReleaseOwes s false old new r → r.answer ≡ Ok (record { kind = kind; number = number; note = note; size = size })
       → Drained r.session more t
       → Drained s (delivered_as (state_of kind) number (take size new) ∷ more) t
 
@@ -45,7 +42,7 @@ pub data Drained : Session → List Delivered → Session → Type 0 where
 -- receiver
 pub record AfterArrival : Type 0 where
   pub sent : ℕ
-  pub answer : Offered
+  pub answer : Result (Unit {0}) Refusal
   pub modem : List Delivered
   pub receiver : Session
 
@@ -65,7 +62,7 @@ pub data Ran (k : ℕ) : Transfer → Type 0 where
       → Ran k (record { line = []; packets = []; sender = s; receiver = t; modem = []; arrivals = [] })
   -- a send that is refused sends nothing and is no loss (rule 23.9)
   refuses : {x : Transfer} {packet old new : List ℕ} {r : Sent} {why : Refusal} → Ran k x
-      → Sends x.sender (settings.Spares k) packet old new r → r.answer ≡ written.Refused why
+      → Sends x.sender (settings.Spares k) packet old new r → r.answer ≡ Err why
       → Ran k
       (record {
         line = x.line;
@@ -77,7 +74,7 @@ pub data Ran (k : ℕ) : Transfer → Type 0 where
       })
   -- a datagram that is lost
   loses : {x : Transfer} {packet old new : List ℕ} {r : Sent} {n : ℕ} → Ran k x
-      → Sends x.sender (settings.Spares k) packet old new r → r.answer ≡ written.Octets n
+      → Sends x.sender (settings.Spares k) packet old new r → r.answer ≡ Ok n
       → Ran k
       (record {
         line = x.line ++ (lost ∷ []);
@@ -88,8 +85,8 @@ pub data Ran (k : ℕ) : Transfer → Type 0 where
         arrivals = x.arrivals;
       })
   -- one that arrives: what was written is offered, and then the receiver is drained
-  brings : {x : Transfer} {packet old new : List ℕ} {r : Sent} {n : ℕ} {o : AfterOffer} {more : List Delivered} {t : Session} → Ran k x
-      → Sends x.sender (settings.Spares k) packet old new r → r.answer ≡ written.Octets n
+  brings : {x : Transfer} {packet old new : List ℕ} {r : Sent} {n : ℕ} {o : Returned (Unit {0})} {more : List Delivered} {t : Session} → Ran k x
+      → Sends x.sender (settings.Spares k) packet old new r → r.answer ≡ Ok n
       → OfferOwes x.receiver (take n new) o → Drained o.session more t
       → Ran k
       (record {

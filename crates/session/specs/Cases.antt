@@ -1,6 +1,7 @@
 -- Small sessions, at a limit or where a rule is easily misread: each case states one answer, in numbers and octets, and cites its rule.
 use Rattle.std.specs.Prelude.{ℕ, ◌-◌, ◌≡◌, true, false, List, [], ◌∷◌, ◌++◌, length, replicate}
 use Rattle.length.specs.Answers.{done, refuse, refuse_at, is_done}
+use Rattle.length.specs.Refusals.{numbered}
 use Rattle.datagram.specs.Carried.{Carried, spares, parity}
 use Rattle.session.specs.Cells.{unknown, received, spare, repaired, blank, Cell, is_unknown}
 use Rattle.session.specs.Held.{Held}
@@ -164,36 +165,36 @@ pub record OfferCases : Type 0 where
   pub last-ahead : offered (alone 31) fresh_view
       ≡ done (started (replicate 31 gap ++ (arrived 31 ∷ [])) (replicate 31 bare ++ (marked ∷ [])))
   -- distances 32 to 32,767 are too far ahead, and 32,768 to 65,535 are late (rules 10.2 and 10.3), across 65,535 too (rule 2.35)
-  pub first-far : offered (alone 32) fresh_view ≡ refuse 8
-  pub last-far : offered (alone 32767) fresh_view ≡ refuse 8
-  pub first-late : offered (alone 32768) fresh_view ≡ refuse 9
-  pub last-late : offered (alone 65535) fresh_view ≡ refuse 9
+  pub first-far : offered (alone 32) fresh_view ≡ refuse (numbered 8)
+  pub last-far : offered (alone 32767) fresh_view ≡ refuse (numbered 8)
+  pub first-late : offered (alone 32768) fresh_view ≡ refuse (numbered 9)
+  pub last-late : offered (alone 65535) fresh_view ≡ refuse (numbered 9)
   pub last-ahead-across : is_done (offered (alone 15) (later 65520 65520 [] [])) ≡ true
-  pub first-far-across : offered (alone 16) (later 65520 65520 [] []) ≡ refuse 8
-  pub last-far-across : offered (alone 32751) (later 65520 65520 [] []) ≡ refuse 8
-  pub first-late-across : offered (alone 32752) (later 65520 65520 [] []) ≡ refuse 9
+  pub first-far-across : offered (alone 16) (later 65520 65520 [] []) ≡ refuse (numbered 8)
+  pub last-far-across : offered (alone 32751) (later 65520 65520 [] []) ≡ refuse (numbered 8)
+  pub first-late-across : offered (alone 32752) (later 65520 65520 [] []) ≡ refuse (numbered 9)
   -- the order is reading order, then 8 or 9, then 7 (rule 10.5); a number that left is 9 and not 7 (rule 10.3)
-  pub read-before-far : offer (0x01 ∷ 0x00 ∷ []) fresh_view ≡ refuse_at 2 1
-  pub read-before-late : offer (0xFF ∷ 0xFF ∷ 0x00 ∷ []) fresh_view ≡ refuse_at 2 4
-  pub read-before-again : offer (0x00 ∷ 0x00 ∷ []) (started (arrived 0 ∷ []) (marked ∷ [])) ≡ refuse_at 2 1
-  pub far-first : offered (alone 32) (started (arrived 0 ∷ []) (marked ∷ [])) ≡ refuse 8
-  pub late-first : offered (alone 0) (later 1 1 (arrived 1 ∷ []) []) ≡ refuse 9
+  pub read-before-far : offer (0x01 ∷ 0x00 ∷ []) fresh_view ≡ refuse_at 2 (numbered 1)
+  pub read-before-late : offer (0xFF ∷ 0xFF ∷ 0x00 ∷ []) fresh_view ≡ refuse_at 2 (numbered 4)
+  pub read-before-again : offer (0x00 ∷ 0x00 ∷ []) (started (arrived 0 ∷ []) (marked ∷ [])) ≡ refuse_at 2 (numbered 1)
+  pub far-first : offered (alone 32) (started (arrived 0 ∷ []) (marked ∷ [])) ≡ refuse (numbered 8)
+  pub late-first : offered (alone 0) (later 1 1 (arrived 1 ∷ []) []) ≡ refuse (numbered 9)
   -- a number whose datagram was accepted before is 7, and one that only a spare filled is not (rules 10.4 and 10.8)
-  pub again : offered (alone 0) (started (arrived 0 ∷ []) (marked ∷ [])) ≡ refuse 7
-  pub again-at-end : offered (alone 31) (started (replicate 31 gap ++ (arrived 31 ∷ [])) (replicate 31 bare ++ (marked ∷ []))) ≡ refuse 7
+  pub again : offered (alone 0) (started (arrived 0 ∷ []) (marked ∷ [])) ≡ refuse (numbered 7)
+  pub again-at-end : offered (alone 31) (started (replicate 31 gap ++ (arrived 31 ∷ [])) (replicate 31 bare ++ (marked ∷ []))) ≡ refuse (numbered 7)
 
 -- ---- release, with refusals in the order 16, 10, 13 (rule 12.9); 16 is given with leave and without (rule 12.12)
 pub record ReleaseCases : Type 0 where
-  pub passed-then-unknown : release false 0 (at_limit [] []) ≡ refuse 16
-  pub passed-then-room : release false 0 (at_limit (arrived 0x4240 ∷ []) []) ≡ refuse 16
-  pub passed-with-leave : release true 0 (at_limit [] []) ≡ refuse 16
+  pub passed-then-unknown : release false 0 (at_limit [] []) ≡ refuse (numbered 16)
+  pub passed-then-room : release false 0 (at_limit (arrived 0x4240 ∷ []) []) ≡ refuse (numbered 16)
+  pub passed-with-leave : release true 0 (at_limit [] []) ≡ refuse (numbered 16)
   -- an unknown base without leave is 10, whatever the room (rule 12.3); a packet longer than the room is 13 (rule 2.13)
-  pub unknown-then-room : release false 0 fresh_view ≡ refuse 10
-  pub unknown-with-room : release false 256 fresh_view ≡ refuse 10
-  pub no_room : release false 0 (started (copy 1 ∷ []) []) ≡ refuse 13
-  pub no-room-by-one : release false 1 (started (restored ∷ []) []) ≡ refuse 13
+  pub unknown-then-room : release false 0 fresh_view ≡ refuse (numbered 10)
+  pub unknown-with-room : release false 256 fresh_view ≡ refuse (numbered 10)
+  pub no_room : release false 0 (started (copy 1 ∷ []) []) ≡ refuse (numbered 13)
+  pub no-room-by-one : release false 1 (started (restored ∷ []) []) ≡ refuse (numbered 13)
   -- with leave at a known base a buffer that is too short is 13 (rule 12.10)
-  pub no-room-with-leave : release true 0 (started (copy 1 ∷ []) []) ≡ refuse 13
+  pub no-room-with-leave : release true 0 (started (copy 1 ∷ []) []) ≡ refuse (numbered 13)
   -- a received number leaves, and its packet stays in view as the number before the base (rules 1.13 and 12.2); it drops its mark and its
   -- message, the numbers behind it keep theirs, and the number that comes into view has nothing (rules 12.5, 12.7 and 12.8)
   pub received-leaves : release false 2 (started (came 0 (0xC0 ∷ 0x01 ∷ []) ∷ arrived 1 ∷ []) (over_two ∷ marked ∷ []))

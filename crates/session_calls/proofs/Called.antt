@@ -1,5 +1,6 @@
 -- The public calls of the receiving session, on plain values: outside the ranges the very session comes back with refusal 17,
 -- within them the core's promise is the call's. Assumes nothing.
+use Rattle.std.proofs.Common.{Result, Err}
 use Prim.Native.Nat.{ℕ}
 use mathlib.Core.Path.{◌≡◌, refl, sym, ap, subst, ◌∙◌}
 use mathlib.Core.Bool.{Bool, true, false}
@@ -20,10 +21,7 @@ use Rattle.session_held.specs.declared.Session.{Session}
 use Rattle.session_held.proofs.Laws.{session-in-ranges}
 use Rattle.session_release.specs.Promise.{Releases}
 use Rattle.session_release.specs.declared.Released.{Released}
-use Rattle.session_release.specs.declared.Released.TheVariants as released
 use Rattle.session_offer.specs.Promise.{Offers}
-use Rattle.session_offer.specs.declared.Offered.{Offered}
-use Rattle.session_offer.specs.declared.Offered.TheVariants as offered
 use Rattle.session_calls.specs.Receiver.{SeenAs, After, offer_of, OfferOwes, release_of, ReleaseOwes}
 
 -- the session put together again
@@ -46,13 +44,13 @@ stands (refused x) seen viewed s r did stay is-done is-refused =
 -- ---- offer
 module _ {s : Session} {octets : List ℕ} {ok : Bool} (e : ok ≡ session_in_ranges s) where
   pub offer-outside : {why : Refusal} → RefusalMade outside_ranges why → ok ≡ false
-      → OfferOwes s octets (record { session = s; answer = offered.Refused why })
+      → OfferOwes s octets (record { session = s; answer = (Err why) })
   unfolding offer_of
   offer-outside made out =
       let outside : session_in_ranges s ≡ false = sym e ∙ out in
       record { answer = rw (outside, made.answer); state = rw outside refl }
 
-  pub offer-inside : {b : ℕ} {c : Counts} {t o g : List ℕ} {answer : Offered} → ok ≡ true
+  pub offer-inside : {b : ℕ} {c : Counts} {t o g : List ℕ} {answer : Result (Unit {0}) Refusal} → ok ≡ true
       → Offers octets (lent_by s) (lent b c t o g) answer
       → OfferOwes s octets (record { session = session_of b c t o g; answer = answer })
   unfolding offer_of
@@ -72,7 +70,7 @@ module _ {s : Session} {octets : List ℕ} {ok : Bool} (e : ok ≡ session_in_ra
 -- ---- release
 module _ {s : Session} {leave : Bool} {old : List ℕ} {ok : Bool} (e : ok ≡ session_in_ranges s) where
   pub release-outside : {why : Refusal} → RefusalMade outside_ranges why → ok ≡ false
-      → ReleaseOwes s leave old old (record { session = s; answer = released.Refused why })
+      → ReleaseOwes s leave old old (record { session = s; answer = Err why })
   unfolding release_of
   release-outside made out =
       let outside : session_in_ranges s ≡ false = sym e ∙ out in
@@ -82,7 +80,7 @@ module _ {s : Session} {leave : Bool} {old : List ℕ} {ok : Bool} (e : ok ≡ s
         state = rw outside refl;
       }
 
-  pub release-inside : {new : List ℕ} {b : ℕ} {c : Counts} {t o g : List ℕ} {answer : Released} → ok ≡ true
+  pub release-inside : {new : List ℕ} {b : ℕ} {c : Counts} {t o g : List ℕ} {answer : Result Released Refusal} → ok ≡ true
       → Releases leave (lent_by s) (lent b c t o g) old new answer
       → ReleaseOwes s leave old new (record { session = session_of b c t o g; answer = answer })
   unfolding release_of

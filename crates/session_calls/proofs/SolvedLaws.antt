@@ -1,5 +1,6 @@
 -- Solve on plain values: outside the ranges the session is returned unchanged with refusal 17, within them the core's promise is the
 -- call's, since the function that the core computes means what the equations mean. Assumes nothing.
+use Rattle.std.proofs.Common.{Result, Err}
 use Prim.Native.Nat.{ℕ}
 use mathlib.Core.Path.{◌≡◌, refl, sym, ap, ◌∙◌, subst}
 use mathlib.Core.Bool.{Bool, true, false, cond, false≢true}
@@ -21,8 +22,6 @@ use Rattle.solve.specs.Solve.{solve}
 use Rattle.solve.specs.Solved.{Solves}
 use Rattle.solve.proofs.SolutionsLaws.{means-it}
 use Rattle.solve_code.specs.Promise.{Solving}
-use Rattle.solve_code.specs.declared.Solved.{Solved}
-use Rattle.solve_code.specs.declared.Solved.TheVariants as solved
 use Rattle.session_calls.specs.Receiver.{in_ranges_then}
 use Rattle.session_calls.specs.Solver.{SolvesAs, SolveOwes}
 use Rattle.session_calls.proofs.Called.{session_of, same-session, stands}
@@ -46,7 +45,7 @@ solves-as s =
 -- ---- the call
 module _ {s : Session} {ok : Bool} (e : ok ≡ session_in_ranges s) where
   pub solve-outside : {why : Refusal} → RefusalMade outside_ranges why → ok ≡ false
-      → SolveOwes s (record { session = s; answer = solved.Refused why })
+      → SolveOwes s (record { session = s; answer = (Err why) })
   solve-outside made out =
       let outside : session_in_ranges s ≡ false = sym e ∙ out in
       record {
@@ -56,7 +55,7 @@ module _ {s : Session} {ok : Bool} (e : ok ≡ session_in_ranges s) where
         state = refl;
       }
 
-  pub solve-inside : {b : ℕ} {c : Counts} {t o g : List ℕ} {answer : Solved} → ok ≡ true → Solving (lent_by s) (lent b c t o g) answer
+  pub solve-inside : {b : ℕ} {c : Counts} {t o g : List ℕ} {answer : Result (Unit {0}) Refusal} → ok ≡ true → Solving (lent_by s) (lent b c t o g) answer
       → SolveOwes s (record { session = session_of b c t o g; answer = answer })
   solve-inside {b} {c} {t} {o} {g} right m =
       let inside : session_in_ranges s ≡ true = sym e ∙ right in

@@ -2,6 +2,7 @@
 -- a release is 17, 16, 10, 13 (rule 12.9). Each promise settles the answer, the session after and the caller's buffer, for every session of
 -- the struct's type and every input (rule 28.14). Definitions only.
 use Rattle.std.specs.Prelude.{ℕ, ◌≡◌, Bool, cond, List, length}
+use Rattle.session_release.specs.declared.Released.{Released}
 use Rattle.length.specs.Refusals.{outside_ranges}
 use Rattle.length.specs.Answers.{Answer, done, refused, refuse, over}
 use Rattle.session.specs.View.{View}
@@ -12,8 +13,7 @@ use Rattle.session_held.specs.Laid.{session_in_ranges, InRanges}
 use Rattle.session_held.specs.declared.Session.{Session}
 use Rattle.session_release.specs.Outcome.{released_outcome, handed_of, octets_handed}
 use Rattle.session_offer.specs.Outcome.{offered_outcome, accepted_of}
-use Rattle.session_calls.specs.declared.receiver.AfterOffer.{AfterOffer}
-use Rattle.session_calls.specs.declared.receiver.AfterRelease.{AfterRelease}
+use Rattle.session_calls.specs.declared.Returned.{Returned}
 
 -- a session within its ranges that has this view
 pub record SeenAs (wanted : View) (s : Session) : Type 0 where
@@ -33,7 +33,7 @@ in_ranges_then call s = cond (session_in_ranges s) (call (view_of s)) (refuse ou
 unfoldable pub offer_of : List ℕ → Session → Answer View
 offer_of octets s = in_ranges_then (offers.offer octets) s
 
-pub record OfferOwes (s : Session) (octets : List ℕ) (r : AfterOffer) : Type 0 where
+pub record OfferOwes (s : Session) (octets : List ℕ) (r : Returned (Unit {0})) : Type 0 where
   pub answer : offered_outcome r.answer ≡ accepted_of (offer_of octets s)
   pub state : After (offer_of octets s) s r.session
 
@@ -41,7 +41,7 @@ pub record OfferOwes (s : Session) (octets : List ℕ) (r : AfterOffer) : Type 0
 unfoldable pub release_of : Bool → ℕ → Session → Answer Release
 release_of leave room s = in_ranges_then (release leave room) s
 
-pub record ReleaseOwes (s : Session) (leave : Bool) (old new : List ℕ) (r : AfterRelease) : Type 0 where
+pub record ReleaseOwes (s : Session) (leave : Bool) (old new : List ℕ) (r : Returned Released) : Type 0 where
   pub answer : released_outcome r.answer ≡ handed_of (release_of leave (length old) s)
   pub lent : new ≡ over (octets_handed (release_of leave (length old) s)) old
   pub state : After (view_after_release (release_of leave (length old) s)) s r.session

@@ -11,7 +11,7 @@ use Rattle.session_held.specs.declared.Session.{Session}
 use Rattle.solve.specs.Solved.{Solves}
 use Rattle.solve_code.specs.Outcome.{solved_outcome, filled_of}
 use Rattle.session_calls.specs.Receiver.{After}
-use Rattle.session_calls.specs.declared.solver.AfterSolve.{AfterSolve}
+use Rattle.session_calls.specs.declared.Returned.{Returned}
 
 -- what a solve of this session comes to: 17 outside the ranges, before all else; within them what the equations mean (rule 14.7). There is
 -- one such answer for each session (`SolverClaims.one_answer`)
@@ -20,7 +20,7 @@ pub record SolvesAs (s : Session) (wanted : Answer View) : Type 0 where
   pub inside : session_in_ranges s ≡ true → Solves (view_of s) wanted
 
 -- the answer reports it, and the session after has it as its view; after a refusal the session is unchanged
-pub record SolveOwes (s : Session) (r : AfterSolve) : Type 0 where
+pub record SolveOwes (s : Session) (r : Returned (Unit {0})) : Type 0 where
   pub wanted : Answer View
   pub means : SolvesAs s wanted
   pub answer : solved_outcome r.answer ≡ filled_of wanted

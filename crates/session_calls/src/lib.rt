@@ -6,9 +6,15 @@
 mod receiver;
 mod solver;
 
-pub use receiver::{AfterOffer, AfterRelease, offer, release};
+use length::Refusal;
+pub use receiver::{offer, release};
 pub use session_held::{Counts, ReleaseKind, Session};
-pub use session_offer::Offered;
 pub use session_release::Released;
-pub use solve_code::Solved;
-pub use solver::{AfterSolve, solve};
+pub use solver::solve;
+
+// What a call returns: its answer, and the session after (rule 30.5).
+#[derive(Drop)]
+pub struct Returned<T> {
+    pub session: Session,
+    pub answer: Result<T, Refusal>,
+}

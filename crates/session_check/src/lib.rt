@@ -32,9 +32,7 @@ const HELD_OCTETS: usize = Parity::MESSAGES * Packet::LIMIT;
 fn sum_right(base: u16, whole: u64) -> bool
     ensures { result ≡ (base == whole % numbers && nat_le whole session_limit) }
 {
-    let base = base as u64;
-    let wrapped = whole % NUMBERS;
-    (base == wrapped) & (whole <= Session::LIMIT)
+    u64::from(base) == whole % NUMBERS && whole <= Session::LIMIT
 }
 
 // How many of the 32 numbers before the base have passed; the others are blank (rule 13.3).
@@ -42,9 +40,10 @@ fn passed(whole: u64) -> u16
     ensures { result ≡ passed_of whole }
 {
     if whole < Session::BEFORE as u64 {
-        return whole as u16;
+        whole as u16
+    } else {
+        BEFORE
     }
-    BEFORE
 }
 
 // The states and lengths of all kept numbers, slot by slot. The number base - j is blank exactly if j exceeds the sum of the counts, and no
@@ -57,14 +56,12 @@ fn all_states_right(base: u16, whole: u64, table: &[u16]) -> bool
     let shift = BEFORE + KEPT - base % KEPT;
     let gone = passed(whole);
     let mut ok = true;
-    let mut i = 0;
-    while i < Session::KEPT {
+    for i in 0..Session::KEPT {
         let state = session_held::state_at(table, i);
         let size = session_held::size_at(table, i);
         let place = (i as u16 + shift) % KEPT;
         let right = state_right(state, size, gone + place < BEFORE);
-        ok = ok & right;
-        i += 1;
+        ok &= right;
     }
     ok
 }
@@ -75,17 +72,15 @@ fn all_notes_right(base: u16, table: &[u16]) -> bool
     ensures { result ≡ all_below slots_kept (note_test base table.now) }
 {
     let shift = BEFORE + KEPT - base % KEPT;
-    let first = std::num::wrapping_sub_u16(base, BEFORE);
+    let first = base.wrapping_sub(BEFORE);
     let mut ok = true;
-    let mut i = 0;
-    while i < Session::KEPT {
+    for i in 0..Session::KEPT {
         let state = session_held::state_at(table, i);
         let note = session_held::note_at(table, i);
         let place = (i as u16 + shift) % KEPT;
-        let number = std::num::wrapping_add_u16(first, place);
+        let number = first.wrapping_add(place);
         let right = note_right(state, note, number);
-        ok = ok & right;
-        i += 1;
+        ok &= right;
     }
     ok
 }
@@ -99,12 +94,10 @@ fn all_packets_laid(table: &[u16], octets: &[u8], passes: &[u8]) -> bool
     ensures { result ≡ all_below slots_kept (packet_test table.now octets.now) }
 {
     let mut ok = true;
-    let mut i = 0;
-    while i < Session::KEPT {
+    for i in 0..Session::KEPT {
         let size = session_held::size_at(table, i);
         let right = slot_right(octets, i, size, passes);
-        ok = ok & right;
-        i += 1;
+        ok &= right;
     }
     ok
 }
@@ -116,10 +109,7 @@ fn all_kept_right(base: u16, whole: u64, table: &[u16], octets: &[u8], passes: &
     requires passes_value { passes.now ≡ mask }
     ensures { result ≡ all_kept base whole table.now octets.now }
 {
-    if all_states_right(base, whole, table) {
-        return all_packets_laid(table, octets, passes);
-    }
-    false
+    all_states_right(base, whole, table) && all_packets_laid(table, octets, passes)
 }
 
 // All that is held, by distance from the base (rules 13.5 to 13.9).
@@ -129,16 +119,14 @@ fn all_heard_right(base: u16, table: &[u16], messages: &[u8], passes: &[u8]) -> 
     requires passes_value { passes.now ≡ mask }
     ensures { result ≡ all_below kept_ahead (heard_test base table.now messages.now) }
 {
-    let base = base as usize;
+    let base = usize::from(base);
     let mut ok = true;
-    let mut d = 0;
-    while d < Session::HEARD {
+    for d in 0..Session::HEARD {
         let slot = (base + d) % Session::HEARD;
         let place = (base + Session::BEFORE + (Session::BEFORE + d)) % Session::KEPT;
         let known = session_held::is_known(table, place);
         let right = heard_right(table, slot, known, messages, passes);
-        ok = ok & right;
-        d += 1;
+        ok &= right;
     }
     ok
 }
@@ -156,5 +144,6 @@ pub fn in_ranges(base: u16, counts: Counts, table: &[u16], octets: &[u8], messag
     let kept = all_kept_right(base, whole, table, octets, &passes);
     let noted = all_notes_right(base, table);
     let heard = all_heard_right(base, table, messages, &passes);
+    // All four are found by now, so they are joined without a branch.
     ((summed & kept) & noted) & heard
 }

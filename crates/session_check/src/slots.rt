@@ -44,34 +44,35 @@ pub fn slot_right(octets: &[u8], slot: usize, size: usize, passes: &[u8]) -> boo
     ensures { result ≡ zeros_past octets.now slot size }
 {
     if size == 0 {
-        return session_slots::all_zero(octets, slot);
+        session_slots::all_zero(octets, slot)
+    } else {
+        session_slots::zeros_past(octets, slot, size, passes)
     }
-    session_slots::zeros_past(octets, slot, size, passes)
 }
 
 // An accepted number is known, only accepted numbers have messages, with m = 0 also n = 0, otherwise n and m are within the sizes (rules
 // 13.6 to 13.8), and the mark is 0 or 1 (rule 13.11).
+// The parts are joined without a branch.
 fn mark_right(mark: u16, known: bool, n: usize, m: usize) -> bool
     ensures { result ≡ marked_right mark known n m }
 {
     if mark == 1 {
         if m == 0 {
-            return known & (n == 0);
+            known & (n == 0)
+        } else {
+            known
+                & ((Parity::PACKETS_LEAST <= n) & (n <= Parity::PACKETS) & (m <= Parity::MESSAGES))
         }
-        return known
-            & ((Parity::PACKETS_LEAST <= n) & (n <= Parity::PACKETS) & (m <= Parity::MESSAGES));
+    } else {
+        (mark == 0) & ((m == 0) & (n == 0))
     }
-    (mark == 0) & ((m == 0) & (n == 0))
 }
 
 // How many octets message i of m may have: message places past m have length 0 (rules 13.8 and 13.9).
 fn most(i: usize, m: usize) -> usize
     ensures { result ≡ (if nat_lt i m then message_limit else 0) }
 {
-    if i < m {
-        return Message::LIMIT;
-    }
-    0
+    if i < m { Message::LIMIT } else { 0 }
 }
 
 // A message in its slot: its length is within the limit, and octets past it are zero (rules 13.5 and 13.8).
@@ -81,10 +82,7 @@ fn message_right(size: usize, limit: usize, messages: &[u8], slot: usize, passes
     requires passes_value { passes.now ≡ mask }
     ensures { result ≡ (nat_le size limit && zeros_past messages.now slot size) }
 {
-    if size <= limit {
-        return slot_right(messages, slot, size, passes);
-    }
-    false
+    size <= limit && slot_right(messages, slot, size, passes)
 }
 
 // All messages of the number in a slot, which has m of them.
@@ -97,14 +95,10 @@ fn messages_right(table: &[u16], slot: usize, m: usize, messages: &[u8], passes:
 {
     let at = slot * Parity::MESSAGES;
     let mut ok = true;
-    let mut i = 0;
-    while i < Parity::MESSAGES {
+    for i in 0..Parity::MESSAGES {
         let place = at + i;
         let size = session_held::message_size_at(table, place);
-        let limit = most(i, m);
-        let right = message_right(size, limit, messages, place, passes);
-        ok = ok & right;
-        i += 1;
+        ok &= message_right(size, most(i, m), messages, place, passes);
     }
     ok
 }
@@ -117,11 +111,8 @@ fn no_sizes(table: &[u16], slot: usize) -> bool
 {
     let at = slot * Parity::MESSAGES;
     let mut ok = true;
-    let mut i = 0;
-    while i < Parity::MESSAGES {
-        let size = session_held::message_size_at(table, at + i);
-        ok = ok & (size == 0);
-        i += 1;
+    for i in 0..Parity::MESSAGES {
+        ok &= session_held::message_size_at(table, at + i) == 0;
     }
     ok
 }
@@ -134,10 +125,9 @@ fn no_octets(messages: &[u8], slot: usize) -> bool
 {
     let at = slot * HELD_OCTETS;
     let mut ok = true;
-    let mut k = 0;
-    while k < HELD_OCTETS {
-        ok = ok & (messages[at + k] == 0);
-        k += 1;
+    // By index, as the contract names places of all messages: over a slice of these octets the proof did not close.
+    for k in 0..HELD_OCTETS {
+        ok &= messages[at + k] == 0;
     }
     ok
 }
@@ -149,10 +139,7 @@ fn no_messages(table: &[u16], slot: usize, messages: &[u8]) -> bool
     requires messages_len { length messages.now ≡ message_octets }
     ensures { result ≡ all_below messages_limit (message_laid table.now messages.now slot 0) }
 {
-    if no_sizes(table, slot) {
-        return no_octets(messages, slot);
-    }
-    false
+    no_sizes(table, slot) && no_octets(messages, slot)
 }
 
 // A number from the base on in its slot: its mark, n and m, and its messages (rules 13.5 to 13.9).
@@ -166,11 +153,11 @@ pub fn heard_right(table: &[u16], slot: usize, known: bool, messages: &[u8], pas
     let mark = session_held::mark_at(table, slot);
     let n = session_held::n_at(table, slot);
     let m = session_held::m_at(table, slot);
-    if mark_right(mark, known, n, m) {
-        if m == 0 {
-            return no_messages(table, slot, messages);
-        }
-        return messages_right(table, slot, m, messages, passes);
+    if !mark_right(mark, known, n, m) {
+        false
+    } else if m == 0 {
+        no_messages(table, slot, messages)
+    } else {
+        messages_right(table, slot, m, messages, passes)
     }
-    false
 }

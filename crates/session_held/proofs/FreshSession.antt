@@ -13,7 +13,6 @@ use borrow.Author.Fill.{fill_more}
 use borrow.Author.Tests.{lt-ltb, le-ltb}
 use Rattle.octets.specs.Place.{tab}
 use Rattle.octets.proofs.Laws.{tab-ext, below_or_not, and_both}
-use Rattle.session.specs.Cells as cells
 use Rattle.session.specs.Cells.{blank_cell, unknown_cell, kept_before, kept_ahead, kept_numbers}
 use Rattle.session.specs.Held.{nothing_held}
 use Rattle.session_slots.specs.Store.{part}

@@ -1,13 +1,13 @@
 -- Laws of slots: places that are apart have slots that are apart, every slot is there, and is the slot of a place. Assumes
 -- nothing.
-use Prim.Native.Nat.{ℕ, suc, ◌+◌, ◌-◌, ◌*◌, ◌%◌, ◌≤◌, ◌<◌}
+use Prim.Native.Nat.{ℕ, suc, ◌+◌, ◌-◌, ◌%◌, ◌<◌}
 use mathlib.Core.Path.{◌≡◌}
 use mathlib.Core.List.{List}
 use mathlib.Core.Logic.{⊎_elim}
 use lib.ListN.{length}
 use native.Mathlib.Omega.{arith}
 use Rattle.octets.proofs.Laws.{below_or_not}
-use Rattle.datagram.specs.Sizes.{packet_limit, messages_limit}
+use Rattle.datagram.specs.Sizes.{messages_limit}
 use Rattle.session.specs.Cells.{kept_ahead, kept_numbers}
 use Rattle.session_slots.specs.Store.{HasSlot}
 use Rattle.session.specs.View.{numbers, following}

@@ -1,6 +1,6 @@
 -- The session in memory: base and counts by value, one table of numbers, and two stores (rules 9.2 and 9.4). `view_in` is the session that
 -- the rules describe, and every promise uses it. Definitions only.
-use Rattle.std.specs.Prelude.{ℕ, ◌+◌, ◌*◌, Bool, cond, List, get_or, set, eqb}
+use Rattle.std.specs.Prelude.{ℕ, ◌+◌, ◌*◌, cond, List, get_or, set, eqb}
 use Rattle.octets.specs.Place.{tab}
 use Rattle.datagram.specs.Sizes.{messages_limit}
 use Rattle.session.specs.Cells as cells

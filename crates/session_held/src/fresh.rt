@@ -10,10 +10,8 @@ impl Session {
         ensures { result ≡ fresh_table }
     {
         let mut table = [0; Session::PLACES];
-        let mut i = Session::HEARD;
-        while i < Session::KEPT {
+        for i in Session::HEARD..Session::KEPT {
             table[i] = Session::BLANK;
-            i += 1;
         }
         table
     }
@@ -22,21 +20,17 @@ impl Session {
     pub fn fresh() -> Session
         ensures { Fresh result }
     {
-        let counts = Counts {
-            received: 0,
-            spare: 0,
-            repaired: 0,
-            lost: 0,
-        };
-        let table = Session::fresh_table();
-        let octets = [0; Session::PACKET_OCTETS];
-        let messages = [0; Session::MESSAGE_OCTETS];
         Session {
             base: 0,
-            counts,
-            table,
-            octets,
-            messages,
+            counts: Counts {
+                received: 0,
+                spare: 0,
+                repaired: 0,
+                lost: 0,
+            },
+            table: Session::fresh_table(),
+            octets: [0; Session::PACKET_OCTETS],
+            messages: [0; Session::MESSAGE_OCTETS],
         }
     }
 }

@@ -81,7 +81,7 @@ impl Session {
 
     pub const PLACES: usize = Session::MESSAGE_SIZES + Session::MESSAGES;
 
-    // The states, encoded as numbers. Any other number is outside the ranges (rule 13.11).
+    // The states, encoded as numbers: C lends the table, and any other number in it is outside the ranges (rule 13.11).
     pub const UNKNOWN: u16 = 0;
 
     pub const RECEIVED: u16 = 1;

@@ -15,24 +15,20 @@ use datagram::Parity;
 pub fn kept_slot(number: u16) -> usize
     ensures { result ≡ number % slots_kept }
 {
-    (number as usize) % Session::KEPT
+    usize::from(number) % Session::KEPT
 }
 
 pub fn heard_slot(number: u16) -> usize
     ensures { result ≡ number % slots_heard }
 {
-    (number as usize) % Session::HEARD
+    usize::from(number) % Session::HEARD
 }
 
 // How many numbers have passed, of all kinds: four numbers of 32 bits never pass 64 bits (rule 13.2).
 pub fn total(c: Counts) -> u64
     ensures { result ≡ sum (counts_of c) }
 {
-    let received = c.received as u64;
-    let spare = c.spare as u64;
-    let repaired = c.repaired as u64;
-    let lost = c.lost as u64;
-    received + spare + repaired + lost
+    u64::from(c.received) + u64::from(c.spare) + u64::from(c.repaired) + u64::from(c.lost)
 }
 
 // The state of a kept number, encoded as a number, and how many octets its packet has.
@@ -49,8 +45,7 @@ pub fn size_at(table: &[u16], slot: usize) -> usize
     requires slot_lt_slots_kept { slot < slots_kept }
     ensures { result ≡ size_in table.now slot }
 {
-    let size = table[Session::SIZES + slot];
-    octets::wide(size)
+    usize::from(table[Session::SIZES + slot])
 }
 
 // The note of a kept number: the number of the datagram whose offer filled it (rule 9.5).
@@ -93,8 +88,7 @@ pub fn n_at(table: &[u16], slot: usize) -> usize
     requires slot_lt_slots_heard { slot < slots_heard }
     ensures { result ≡ n_in table.now slot }
 {
-    let n = table[Session::NS + slot];
-    octets::wide(n)
+    usize::from(table[Session::NS + slot])
 }
 
 pub fn m_at(table: &[u16], slot: usize) -> usize
@@ -102,8 +96,7 @@ pub fn m_at(table: &[u16], slot: usize) -> usize
     requires slot_lt_slots_heard { slot < slots_heard }
     ensures { result ≡ m_in table.now slot }
 {
-    let m = table[Session::MS + slot];
-    octets::wide(m)
+    usize::from(table[Session::MS + slot])
 }
 
 // How many octets a message has.
@@ -112,8 +105,7 @@ pub fn message_size_at(table: &[u16], slot: usize) -> usize
     requires slot_lt_slots_messages { slot < slots_messages }
     ensures { result ≡ message_size_in table.now slot }
 {
-    let size = table[Session::MESSAGE_SIZES + slot];
-    octets::wide(size)
+    usize::from(table[Session::MESSAGE_SIZES + slot])
 }
 
 // Sets the state, the size and the note of a kept number.

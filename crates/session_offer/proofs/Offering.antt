@@ -1,16 +1,16 @@
 -- The offer's answers, on plain values: one law for each. The tests that led to an answer are those of `offered` in `session`. Assumes
 -- nothing.
-use Rattle.std.proofs.Common.{◌≡◌, ℕ, ◌+◌, ◌%◌, ◌<◌, ◌≤◌, Bool, true, false, eqb, List, length, sym, refl, ap, ◌∙◌, arith, length-take, le-ltb, lt-ltb}
+use Rattle.std.proofs.Common.{◌≡◌, ℕ, ◌+◌, ◌%◌, ◌<◌, ◌≤◌, Bool, true, false, eqb, List, length, sym, refl, ap, ◌∙◌, arith, length-take, le-ltb, lt-ltb, Result, Ok, Err}
 use Rattle.length.specs.Refusals.{repeated, too_far, late}
 use Rattle.length.specs.Answers.{done, refused, refuse}
 use Rattle.length.specs.declared.Refusal.{Refusal}
+use Rattle.length.specs.declared.Reason.{Reason}
 use Rattle.datagram.specs.Carried.{Carried}
 use Rattle.datagram.specs.Claims.{Inside}
 use Rattle.datagram.specs.Promise.{DatagramReads}
 use Rattle.datagram.specs.Read.{carried_by}
 use Rattle.datagram.proofs.Laws.{refused-read, accepted-read, accepted-count, accepted-inside}
 use Rattle.datagram.specs.declared.reader.Part.{Part}
-use Rattle.datagram.specs.declared.reader.Reading.TheVariants as reading
 use Rattle.datagram.specs.declared.reader.DatagramRead.{DatagramRead}
 use Rattle.datagram.specs.declared.kind.Kind.{Kind}
 use Rattle.session.specs.Cells.{kept_ahead}
@@ -25,12 +25,10 @@ use Rattle.session_held.proofs.Laws.{held-at}
 use Rattle.session_offer.specs.Outcome.{refused_as}
 use Rattle.session_offer.specs.Steps.{carried_items, MayBeAccepted, AcceptedAt, OffersRead}
 use Rattle.session_offer.specs.Promise.{Offers}
-use Rattle.session_offer.specs.declared.Offered.{Offered}
-use Rattle.session_offer.specs.declared.Offered.TheVariants as offered
 
 -- ---- a refusal: the very session before
-refused-read-so : {datagram : Carried} {l : Lent} {number : ℕ} {r : Offered} → InRanges l
-    → offers.offered datagram (view_in l) ≡ refuse number → r ≡ refused_as number → OffersRead datagram l l r
+refused-read-so : {datagram : Carried} {l : Lent} {why : Reason} {r : Result (Unit {0}) Refusal} → InRanges l
+    → offers.offered datagram (view_in l) ≡ refuse why → r ≡ refused_as why → OffersRead datagram l l r
 refused-read-so w e is = rw is (record { told = rw e; state = rw e; within = w; stays = λ x same. refl })
 
 done_refused : {A : Type 0} {a : A} {x : Refusal} → done a ≡ refused x → ⊥
@@ -72,11 +70,11 @@ module _ {base : ℕ} {c : Counts} {t o g : List ℕ} (w : InRanges (lent base c
   unfolding offers.offered view_in
   offered-new low new = rw (d-is, lt-ltb d kept_ahead low, new)
 
-  pub made-far : {r : Offered} → kept_ahead ≤ d → d < offers.late_from → r ≡ refused_as too_far
+  pub made-far : {r : Result (Unit {0}) Refusal} → kept_ahead ≤ d → d < offers.late_from → r ≡ refused_as too_far
       → OffersRead (carried_items s number packet k count items) (lent base c t o g) (lent base c t o g) r
   made-far far low is = refused-read-so w (offered-far far low) is
 
-  pub made-late : {r : Offered} → kept_ahead ≤ d → offers.late_from ≤ d → r ≡ refused_as late
+  pub made-late : {r : Result (Unit {0}) Refusal} → kept_ahead ≤ d → offers.late_from ≤ d → r ≡ refused_as late
       → OffersRead (carried_items s number packet k count items) (lent base c t o g) (lent base c t o g) r
   made-late far past is = refused-read-so w (offered-late far past) is
 
@@ -89,7 +87,7 @@ module _ {base : ℕ} {c : Counts} {t o g : List ℕ} (w : InRanges (lent base c
           let same : heard_slot_at base d ≡ slot = omega arith in
           ap (λ (x : Held). x.accepted) (held-at base t g d low) ∙ ap (λ (j : ℕ). eqb (mark_in t j) 1) same ∙ sym e-again
 
-      pub made_again : {r : Offered} → again ≡ true → r ≡ refused_as repeated
+      pub made_again : {r : Result (Unit {0}) Refusal} → again ≡ true → r ≡ refused_as repeated
           → OffersRead (carried_items s number packet k count items) (lent base c t o g) (lent base c t o g) r
       made_again so is = refused-read-so w (offered-again low (mark-is ∙ so)) is
 
@@ -101,31 +99,31 @@ module _ {base : ℕ} {c : Counts} {t o g : List ℕ} (w : InRanges (lent base c
 
       pub made-accepted : {t₁ o₁ g₁ : List ℕ} → again ≡ false
           → AcceptedAt (carried_items s number packet k count items) d (lent base c t o g) (lent base c t₁ o₁ g₁)
-          → OffersRead (carried_items s number packet k count items) (lent base c t o g) (lent base c t₁ o₁ g₁) offered.Accepted
+          → OffersRead (carried_items s number packet k count items) (lent base c t o g) (lent base c t₁ o₁ g₁) (Ok tt)
       made-accepted new a =
           let e = offered-new low (mark-is ∙ new) in
           record { told = rw e; state = rw e a.state; within = a.within; stays = λ x is. absurd (done_refused (sym e ∙ is)) }
 
 -- ---- the whole offer
-module _ {s : List ℕ} {read : DatagramRead} (reads : DatagramReads s read) where
-  pub offer-refused : {l : Lent} {why : Refusal} → InRanges l → read.reading ≡ reading.Refused why → Offers s l l (offered.Refused why)
+module _ {s : List ℕ} {found : Result DatagramRead Refusal} (reads : DatagramReads s found) where
+  pub offer-refused : {l : Lent} {why : Refusal} → InRanges l → found ≡ Err why → Offers s l l (Err why)
   unfolding offers.offer
   offer-refused {l} {why} w is =
       let e : offers.offer s (view_in l) ≡ refused why = rw (refused-read reads is) in
       record { told = rw e; state = rw e; within = w; stays = λ x same. refl }
 
-  module _ {number : ℕ} {packet : Part} {k : Kind} {count : ℕ} (is : read.reading ≡ reading.Datagram number packet k count) where
-    pub offer-inside : Inside s packet k count read.items
+  module _ {read : DatagramRead} (is : found ≡ Ok read) where
+    pub offer-inside : Inside s read.packet read.kind read.count read.items
     offer-inside = accepted-inside reads is
 
-    pub offer-there : count ≤ length read.items
-    offer-there = omega (arith, accepted-count reads is, length-take count read.items)
+    pub offer-there : read.count ≤ length read.items
+    offer-there = omega (arith, accepted-count reads is, length-take read.count read.items)
 
-    pub offer-taken : {l after : Lent} {r : Offered} → OffersRead (carried_items s number packet k count read.items) l after r
+    pub offer-taken : {l after : Lent} {r : Result (Unit {0}) Refusal} → OffersRead (carried_items s read.number read.packet read.kind read.count read.items) l after r
         → Offers s l after r
     unfolding offers.offer
     offer-taken {l} {after} {r} m =
-        let e : offers.offer s (view_in l) ≡ offers.offered (carried_items s number packet k count read.items) (view_in l) =
+        let e : offers.offer s (view_in l) ≡ offers.offered (carried_items s read.number read.packet read.kind read.count read.items) (view_in l) =
         rw (accepted-read reads is) in
         record {
           told = rw e m.told;

@@ -77,9 +77,8 @@ module _ {number : ℕ} {s : List ℕ} {items : List Part} {count : ℕ} {t o ne
   pub sparing-part : CarriesSpares s items count → j < count → PartInside packet_least packet_limit s (part_at items j)
   sparing-part carries more = carries.each j more
 
-  pub sparing-may : {before : ℕ} → MayKeep number count t o → j < count → before < numbers → (before + 1) % numbers ≡ at
-      → MayKeep before 0 new store
-  sparing-may {before} may more small e-before =
+  pub sparing-may : {before : ℕ} → MayKeep number count t o → j < count → before ≡ (at + 65535) % numbers → MayKeep before 0 new store
+  sparing-may {before} may more e-before =
       let n =
       l.now may.base may.counts may.messages may.place may.within may.there may.low may.stands in
       let at-is = n.number in
@@ -96,10 +95,10 @@ module _ {number : ℕ} {s : List ℕ} {items : List Part} {count : ℕ} {t o ne
         stands = omega arith;
       }
 
-  pub sparing-turn : {before : ℕ} {new_t new_o : List ℕ} → CarriesSpares s items count → j < count → before < numbers
-      → (before + 1) % numbers ≡ at → Keeps number 2 before (octets_of s (part_at items j)) new store new_t new_o → length new_t ≡ length new
+  pub sparing-turn : {before : ℕ} {new_t new_o : List ℕ} → CarriesSpares s items count → j < count
+      → before ≡ (at + 65535) % numbers → Keeps number 2 before (octets_of s (part_at items j)) new store new_t new_o → length new_t ≡ length new
       → length new_o ≡ length store → Sparing number s items count t o new_t new_o before (j + 1)
-  sparing-turn {before} {new_t} {new_o} carries more small e-before k same-t same-o =
+  sparing-turn {before} {new_t} {new_o} carries more e-before k same-t same-o =
       record {
         few = omega arith;
         long = same-t ∙ l.long;

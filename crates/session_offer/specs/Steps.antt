@@ -1,5 +1,5 @@
 -- What the inner functions of offer require and promise: for a datagram that was read, and for one that is accepted. Definitions only.
-use Rattle.std.specs.Prelude.{◌≡◌, ℕ, ◌+◌, ◌<◌, ◌≤◌, false, List, length, take}
+use Rattle.std.specs.Prelude.{◌≡◌, ℕ, ◌+◌, ◌<◌, ◌≤◌, false, List, length, take, Result}
 use Rattle.length.specs.Answers.{refused, afterwards}
 use Rattle.length.specs.declared.Refusal.{Refusal}
 use Rattle.datagram.specs.Carried.{Carried}
@@ -15,7 +15,6 @@ use Rattle.session.specs.Offer as offers
 use Rattle.session_held.specs.Table.{Lent, held_of, view_in}
 use Rattle.session_held.specs.Laid.{InRanges}
 use Rattle.session_offer.specs.Outcome.{offered_outcome, accepted_of}
-use Rattle.session_offer.specs.declared.Offered.{Offered}
 
 -- ---- of a datagram's items: how many are spares, how many are messages; and n, which is 0 with spares
 abbrev pub spare_count : Kind → ℕ → ℕ
@@ -51,7 +50,7 @@ pub record AcceptedAt (datagram : Carried) (d : ℕ) (before after : Lent) : Typ
   pub within : InRanges after
 
 -- ---- a datagram that was read, offered (rules 10.1 to 10.4)
-pub record OffersRead (datagram : Carried) (before after : Lent) (answer : Offered) : Type 0 where
+pub record OffersRead (datagram : Carried) (before after : Lent) (answer : Result (Unit {0}) Refusal) : Type 0 where
   pub told : offered_outcome answer ≡ accepted_of (offers.offered datagram (view_in before))
   pub state : view_in after ≡ afterwards (offers.offered datagram (view_in before)) (view_in before)
   pub within : InRanges after

@@ -1,6 +1,7 @@
 // What a session keeps of an accepted datagram: its packet and its spares, where their numbers are still unknown (rules 10.6 and 10.7), and
 // its mark, n and messages (rule 10.10). These functions serve callers inside this repository: they require that what the datagram carries
-// is within the sizes. They count nothing: a number is counted as it is released (rule 12.13).
+// is within the sizes. They count nothing: a number is counted as it is released (rule 12.13). Items come as the datagram
+// reader returns them: an array with room for the most items, and how many there are.
 ghost use Rattle.std.specs.Prelude.{◌≡◌, ◌<◌, true, length};
 ghost use Rattle.datagram.specs.Sizes.{packet_least, packet_limit, message_least, message_limit};
 ghost use Rattle.datagram.specs.Claims.{PartInside};
@@ -21,11 +22,8 @@ fn put_part(octets: &mut [u8], slot: usize, s: &[u8], part: Part) -> u16
     requires part_inside { PartInside message_least message_limit s.now part }
     ensures { PartPut slot s.now part octets.old octets.new result }
 {
-    let start = part.start;
-    let size = part.size;
-    let end = start + size;
-    session_slots::put(octets, slot, &s[start..end]);
-    size as u16
+    session_slots::put(octets, slot, &s[part.start..part.start + part.size]);
+    part.size as u16
 }
 
 // Keeps a packet, which is a part of the datagram s, at its number as received or spare, if that number is still unknown (rule 10.7). Its
@@ -73,13 +71,9 @@ pub fn keep_spares(
         octets.new }
 {
     let mut at = number;
-    let mut j = 0;
-    while j < count {
-        let part = items[j];
-        let before = std::num::wrapping_sub_u16(at, 1);
-        keep(table, octets, before, Session::SPARE, number, s, part);
-        at = before;
-        j += 1;
+    for j in 0..count {
+        at = at.wrapping_sub(1);
+        keep(table, octets, at, Session::SPARE, number, s, items[j]);
     }
 }
 
@@ -101,13 +95,9 @@ fn lay(
         messages.new }
 {
     let at = j * Parity::MESSAGES;
-    let mut i = 0;
-    while i < count {
-        let item = items[i];
-        let place = at + i;
-        let size = put_part(messages, place, s, item);
-        session_held::set_message_size(table, place, size);
-        i += 1;
+    for i in 0..count {
+        let size = put_part(messages, at + i, s, items[i]);
+        session_held::set_message_size(table, at + i, size);
     }
 }
 
@@ -128,8 +118,7 @@ pub fn hold(
     ensures { Holds base distance s.now n items count table.old messages.old table.new
         messages.new }
 {
-    let number = std::num::wrapping_add_u16(base, distance);
-    let slot = session_held::heard_slot(number);
+    let slot = session_held::heard_slot(base.wrapping_add(distance));
     let covered = n as u16;
     let m = count as u16;
     session_held::set_heard(table, slot, covered, m);

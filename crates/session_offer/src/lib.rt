@@ -12,20 +12,13 @@ ghost use Rattle.session_offer.specs.Outcome.{refused_as};
 ghost use Rattle.session_offer.specs.Steps.{spare_count, message_count, covered_of, carried_items, MayBeAccepted, AcceptedAt, OffersRead};
 ghost use Rattle.session_offer.specs.Promise.{Offers};
 
-use datagram::{Kind, Part, Reading, Spares};
+use datagram::{Kind, Part, Spares};
 pub use kept::keep;
-use length::Refusal;
+use length::{Reason, Refusal};
 use session_held::{Counts, Session};
 
 // A number is late from this distance on (rule 10.3).
 const LATE_FROM: u16 = 32768;
-
-// What offer returns: accepted, or the refusal.
-#[derive(Drop)]
-pub enum Offered {
-    Accepted,
-    Refused(Refusal),
-}
 
 // How many of a datagram's items are spares, how many are messages, and n, which is 0 with spares.
 fn spares_of(kind: Kind, count: usize) -> usize
@@ -86,12 +79,11 @@ fn accept(
     session_repair::mend(base, table, octets, messages, number);
 }
 
-// A refusal, made from its number.
-fn refused(number: u8) -> Offered
-    ensures { result ≡ refused_as number }
+// A refusal, made from its reason.
+fn refused(reason: Reason) -> Result<(), Refusal>
+    ensures { result ≡ refused_as reason }
 {
-    let why = Refusal::new(number);
-    Offered::Refused(why)
+    Err(Refusal::new(reason))
 }
 
 // Offers a datagram that was read: it is too far ahead, late, repeated or accepted (rules 10.1 to 10.4).
@@ -107,7 +99,7 @@ fn offer_read(
     kind: Kind,
     count: usize,
     items: [Part; Spares::LIMIT],
-) -> Offered
+) -> Result<(), Refusal>
     requires in_ranges { InRanges (lent base counts table.old octets.old messages.old) }
     requires inside { Inside s.now packet kind count items }
     requires count_in_bounds { count ≤ length items }
@@ -115,21 +107,20 @@ fn offer_read(
         (lent base counts table.old octets.old messages.old)
         (lent base counts table.new octets.new messages.new) result }
 {
-    let distance = std::num::wrapping_sub_u16(number, base);
-    if Session::AHEAD <= distance {
-        if distance < LATE_FROM {
-            return refused(Refusal::TOO_FAR);
-        }
-        return refused(Refusal::LATE);
+    let distance = number.wrapping_sub(base);
+    if LATE_FROM <= distance {
+        return refused(Reason::Late);
     }
-    let slot = session_held::heard_slot(number);
-    if session_held::accepted_at(table, slot) {
-        return refused(Refusal::REPEATED);
+    if Session::AHEAD <= distance {
+        return refused(Reason::TooFar);
+    }
+    if session_held::accepted_at(table, session_held::heard_slot(number)) {
+        return refused(Reason::Repeated);
     }
     accept(
         base, counts, table, octets, messages, s, number, distance, packet, kind, count, items,
     );
-    Offered::Accepted
+    Ok(())
 }
 
 // Offers any octets to the session (rule 10.13).
@@ -140,23 +131,23 @@ pub fn offer_core(
     octets: &mut [u8; Session::PACKET_OCTETS],
     messages: &mut [u8; Session::MESSAGE_OCTETS],
     s: &[u8],
-) -> Offered
+) -> Result<(), Refusal>
     requires { InRanges (lent base counts table.old octets.old messages.old) }
     ensures { Offers s.now (lent base counts table.old octets.old messages.old)
         (lent base counts table.new octets.new messages.new) result }
 {
-    let read = datagram_reader::read(s);
-    let reading = read.reading;
-    let items = read.items;
-    match reading {
-        Reading::Datagram {
-            number,
-            packet,
-            kind,
-            count,
-        } => offer_read(
-            base, counts, table, octets, messages, s, number, packet, kind, count, items,
-        ),
-        Reading::Refused(why) => Offered::Refused(why),
-    }
+    let read = datagram_reader::read(s)?;
+    offer_read(
+        base,
+        counts,
+        table,
+        octets,
+        messages,
+        s,
+        read.number,
+        read.packet,
+        read.kind,
+        read.count,
+        read.items,
+    )
 }

@@ -1,5 +1,5 @@
 -- A number left, and its packet is copied out of its slot: one law for each answer of `release_core`. Assumes nothing.
-use Rattle.std.proofs.Common.{◌≡◌, ℕ, ◌%◌, ◌≤◌, Bool, List, ◌++◌, length, drop, sym, refl, ap, ◌∙◌, ap₂, arith}
+use Rattle.std.proofs.Common.{◌≡◌, ℕ, ◌%◌, ◌≤◌, Bool, List, ◌++◌, length, drop, sym, refl, ap, ◌∙◌, ap₂, arith, Result, Ok, Err}
 use Rattle.length.specs.Answers.{Answer, done, refused}
 use Rattle.length.specs.declared.Refusal.{Refusal}
 use Rattle.datagram.specs.Sizes.{packet_limit}
@@ -14,7 +14,6 @@ use Rattle.session_held.proofs.Laws.{has-packet-slot}
 use Rattle.session_release.specs.Outcome.{Handed, released_outcome, handed_of}
 use Rattle.session_release.specs.Promise.{Leaves, Releases}
 use Rattle.session_release.specs.declared.Released.{Released}
-use Rattle.session_release.specs.declared.Released.TheVariants as released
 
 -- ---- what the answer says of the number that left
 pub record Gone (x : Answer Release) (kind : State) (number note size : ℕ) : Type 0 where
@@ -42,20 +41,20 @@ none-gone : (x : Answer Release) (why : Refusal) → refused why ≡ handed_of x
 none-gone (done r) why e = let z : ◌≡◌ {A = ℕ} 0 1 = cc in absurd (omega arith)
 none-gone (refused x) why e = cc
 
-module _ {leave : Bool} {room : ℕ} {before after : Lent} {answer : Released} (l : Leaves leave room before after answer) where
-  pub gone : {kind : ReleaseKind} {number note size : ℕ} → answer ≡ released.Number kind number note size
+module _ {leave : Bool} {room : ℕ} {before after : Lent} {answer : Result Released Refusal} (l : Leaves leave room before after answer) where
+  pub gone : {kind : ReleaseKind} {number note size : ℕ} → answer ≡ Ok (record { kind = kind; number = number; note = note; size = size })
       → Gone (release leave room (view_in before)) (state_of kind) number note size
   gone {kind} {number} {note} {size} is =
       gone_of (release leave room (view_in before)) (state_of kind) number note size (sym (ap released_outcome is) ∙ l.told)
 
-  pub not-gone : {why : Refusal} → answer ≡ released.Refused why → release leave room (view_in before) ≡ refused why
+  pub not-gone : {why : Refusal} → answer ≡ Err why → release leave room (view_in before) ≡ refused why
   not-gone {why} is = none-gone (release leave room (view_in before)) why (sym (ap released_outcome is) ∙ l.told)
 
   -- where its packet is, and how long
   pub gone-there : (number : ℕ) {slot : ℕ} → slot ≡ number % slots_kept → HasSlot slot after.octets
   gone-there number {slot} at = has-packet-slot after.octets slot l.within.laid.octets (omega arith)
 
-  module _ {kind : ReleaseKind} {number note size : ℕ} (is : answer ≡ released.Number kind number note size) where
+  module _ {kind : ReleaseKind} {number note size : ℕ} (is : answer ≡ Ok (record { kind = kind; number = number; note = note; size = size })) where
     pub gone-short : size ≤ packet_limit
     gone-short = let a = gone is in omega (arith, a.same_size, (l.stored a.out a.is).fits)
 
@@ -68,8 +67,8 @@ module _ {leave : Bool} {room : ℕ} {before after : Lent} {answer : Released} (
         ap₂ (λ (n s : ℕ). part after.octets (n % slots_kept) s) a.same_number a.same_size ∙ (l.stored a.out a.is).octets
 
 -- ---- each answer
-module _ {leave : Bool} {before after : Lent} {old : List ℕ} {answer : Released} (l : Leaves leave (length old) before after answer) where
-  pub copied : {kind : ReleaseKind} {number note size slot : ℕ} {new : List ℕ} → answer ≡ released.Number kind number note size
+module _ {leave : Bool} {before after : Lent} {old : List ℕ} {answer : Result Released Refusal} (l : Leaves leave (length old) before after answer) where
+  pub copied : {kind : ReleaseKind} {number note size slot : ℕ} {new : List ℕ} → answer ≡ Ok (record { kind = kind; number = number; note = note; size = size })
       → slot ≡ number % slots_kept → new ≡ part after.octets slot size ++ drop size old
       → Releases leave before after old new answer
   copied {number = number} {size = size} {slot = slot} {new = new} is at lent =
@@ -85,7 +84,7 @@ module _ {leave : Bool} {before after : Lent} {old : List ℕ} {answer : Release
         stays = l.stays;
       }
 
-  pub not-copied : {why : Refusal} → answer ≡ released.Refused why → Releases leave before after old old answer
+  pub not-copied : {why : Refusal} → answer ≡ Err why → Releases leave before after old old answer
   not-copied is =
       record {
         told = l.told;

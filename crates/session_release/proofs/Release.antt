@@ -1,11 +1,12 @@
 -- What `release` is by the tests of the code, and one law for each answer of `release_core`: the tests that led there give the
 -- promise. Assumes nothing.
-use Rattle.std.proofs.Common.{◌≡◌, ℕ, ◌%◌, ◌<◌, ◌≤◌, Bool, true, false, not, ◌&&◌, eqb, List, sym, refl, ap, ◌∙◌, subst, ⊎_elim, arith, le-ltb, lt-ltb, ne_eqb}
+use Rattle.std.proofs.Common.{◌≡◌, ℕ, ◌%◌, ◌<◌, ◌≤◌, Bool, true, false, not, ◌&&◌, eqb, List, sym, refl, ap, ◌∙◌, subst, ⊎_elim, arith, le-ltb, lt-ltb, ne_eqb, Ok}
 use mathlib.Core.Bool.{false≢true}
 use Rattle.octets.proofs.Laws.{below_or_not, and_right}
 use Rattle.length.specs.Refusals.{base_unknown, no_room, all_passed}
 use Rattle.length.specs.Answers.{done, refuse}
 use Rattle.length.proofs.Laws.{done-same}
+use Rattle.length.specs.declared.Reason.{Reason}
 use Rattle.session.specs.Cells.{unknown_at, kept_before}
 use Rattle.session_slots.specs.Store.{part}
 use Rattle.session_slots.proofs.Laws.{length_part}
@@ -20,7 +21,6 @@ use Rattle.session_held.proofs.Laws.{unknown-number}
 use Rattle.session_release.specs.Steps.{Named, Passed, release_refused}
 use Rattle.session_release.specs.Promise.{MayMoveOn, MovesOn, StaysInSlot, Leaves}
 use Rattle.session_release.specs.declared.ReleaseDone.{ReleaseDone}
-use Rattle.session_release.specs.declared.Released.TheVariants as released
 use Rattle.session_release.proofs.Base.{goes_on, base_there, base-cell, base-kind, base-size, base-unknown, base-octets, base-state}
 
 -- ---- what the definition says, by the tests of the code
@@ -77,7 +77,7 @@ same_test leave read = ap (λ (n : ℕ). eqb n 0 && not leave) (sym read)
 
 -- ---- each answer
 -- a refusal: the very session
-refused-release : {leave : Bool} {room b : ℕ} {c : Counts} {t o g : List ℕ} {r : ReleaseDone} (n : ℕ) → InRanges (lent b c t o g)
+refused-release : {leave : Bool} {room b : ℕ} {c : Counts} {t o g : List ℕ} {r : ReleaseDone} (n : Reason) → InRanges (lent b c t o g)
     → release leave room (view_in (lent b c t o g)) ≡ refuse n
     → r ≡ release_refused b c n
     → Leaves leave room (lent b c t o g) (lent r.base r.counts t o g) r.answer
@@ -108,7 +108,7 @@ module _ {leave : Bool} {room b : ℕ} {c : Counts} {t o g : List ℕ} {p : Bool
           refused-release no_room w (release-short w limit leave room more at_base (same_test leave read) goes (rw size at short)) made
 
       pub release-left : {kind : ReleaseKind} {note : ℕ} {after : Lent} → s ≤ room → note ≡ note_in t slot → Named state kind
-          → MovesOn (lent b c t o g) after → Leaves leave room (lent b c t o g) after (released.Number kind b note s)
+          → MovesOn (lent b c t o g) after → Leaves leave room (lent b c t o g) after (Ok (record { kind = kind; number = b; note = note; size = s }))
       release-left {kind} {after = after} fits noted told moved =
           let low = base-size w at_base in
           let long = length_part o slot (size_in t slot) (base_there w at_base) low in

@@ -1,11 +1,11 @@
 -- What each case of a release's answer is, in the rules' number and values (rule 30.10). Definitions only.
-use Rattle.std.specs.Prelude.{ℕ, List, length}
+use Rattle.std.specs.Prelude.{ℕ, List, length, Result, Ok, Err}
+use Rattle.length.specs.declared.Refusal.{Refusal}
 use Rattle.length.specs.Answers.{Answer, done, refused, mapped}
 use Rattle.session.specs.Cells as cells
 use Rattle.session.specs.Release.{Release}
 use Rattle.session_held.specs.Table.{state_of}
 use Rattle.session_release.specs.declared.Released.{Released}
-use Rattle.session_release.specs.declared.Released.TheVariants as released
 
 -- what a release returns of the number that leaves (rule 12.2)
 pub record Handed : Type 0 where
@@ -14,9 +14,9 @@ pub record Handed : Type 0 where
   pub note : ℕ
   pub size : ℕ
 
-abbrev pub released_outcome : Released → Answer Handed
-released_outcome (released.Number kind number note size) = done (record { kind = state_of kind; number = number; note = note; size = size })
-released_outcome (released.Refused r) = refused r
+abbrev pub released_outcome : Result Released Refusal → Answer Handed
+released_outcome (Ok r) = done (record { kind = state_of r.kind; number = r.number; note = r.note; size = r.size })
+released_outcome (Err why) = refused why
 
 abbrev pub handed_of : Answer Release → Answer Handed
 handed_of answer =

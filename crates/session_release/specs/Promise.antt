@@ -1,5 +1,5 @@
 -- What each call promises, of the session's memory before and after (rules 12.2 to 12.9). Definitions only.
-use Rattle.std.specs.Prelude.{◌≡◌, ℕ, ◌%◌, ◌<◌, ◌≤◌, Bool, List, length}
+use Rattle.std.specs.Prelude.{◌≡◌, ℕ, ◌%◌, ◌<◌, ◌≤◌, Bool, List, length, Result}
 use Rattle.length.specs.Answers.{done, refused, over, afterwards}
 use Rattle.length.specs.declared.Refusal.{Refusal}
 use Rattle.datagram.specs.Sizes.{packet_limit}
@@ -32,7 +32,7 @@ pub record StaysInSlot (store : List ℕ) (r : Release) : Type 0 where
 
 -- a number leaves, with leave to skip or without, and with room for this many octets: the answer, the session after, and where its packet
 -- is; a refusal leaves the memory unchanged (rule 2.25)
-pub record Leaves (leave : Bool) (room : ℕ) (before after : Lent) (answer : Released) : Type 0 where
+pub record Leaves (leave : Bool) (room : ℕ) (before after : Lent) (answer : Result Released Refusal) : Type 0 where
   pub told : released_outcome answer ≡ handed_of (release leave room (view_in before))
   pub stored : (r : Release) → release leave room (view_in before) ≡ done r → StaysInSlot after.octets r
   pub state : view_in after ≡ afterwards (view_after_release (release leave room (view_in before))) (view_in before)
@@ -41,7 +41,7 @@ pub record Leaves (leave : Bool) (room : ℕ) (before after : Lent) (answer : Re
 
 -- a release, with leave to skip or without: its answer, the caller's buffer old before and new after, and the session after; a refusal
 -- leaves the memory unchanged (rule 2.25)
-pub record Releases (leave : Bool) (before after : Lent) (old new : List ℕ) (answer : Released) : Type 0 where
+pub record Releases (leave : Bool) (before after : Lent) (old new : List ℕ) (answer : Result Released Refusal) : Type 0 where
   pub told : released_outcome answer ≡ handed_of (release leave (length old) (view_in before))
   pub written : new ≡ over (octets_handed (release leave (length old) (view_in before))) old
   pub state : view_in after ≡ afterwards (view_after_release (release leave (length old) (view_in before))) (view_in before)

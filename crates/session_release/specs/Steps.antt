@@ -1,6 +1,7 @@
 -- What the inner functions of this crate promise. Definitions only.
-use Rattle.std.specs.Prelude.{◌≡◌, ℕ, ◌<◌, ◌≤◌, Bool, true, List, length, nat_le}
+use Rattle.std.specs.Prelude.{◌≡◌, ℕ, ◌<◌, ◌≤◌, Bool, true, List, length, nat_le, Err}
 use Rattle.length.specs.Refusals.{refusal}
+use Rattle.length.specs.declared.Reason.{Reason}
 use Rattle.datagram.specs.Sizes.{packet_limit}
 use Rattle.session_slots.specs.Store.{HasSlot, part, zeros_past}
 use Rattle.session.specs.View.{sum, session_limit}
@@ -9,10 +10,9 @@ use Rattle.session_held.specs.Table.{counts_of, state_of, state_numbered}
 use Rattle.session_held.specs.declared.Counts.{Counts}
 use Rattle.session_held.specs.declared.ReleaseKind.{ReleaseKind}
 use Rattle.session_release.specs.declared.ReleaseDone.{ReleaseDone}
-use Rattle.session_release.specs.declared.Released.TheVariants as released
 
-abbrev pub release_refused : ℕ → Counts → ℕ → ReleaseDone
-release_refused b c number = record { base = b; counts = c; answer = released.Refused (refusal number) }
+abbrev pub release_refused : ℕ → Counts → Reason → ReleaseDone
+release_refused b c why = record { base = b; counts = c; answer = Err (refusal why) }
 
 -- the kind that an answer names, for the state that a number of the table encodes
 pub record Named (state : ℕ) (kind : ReleaseKind) : Type 0 where

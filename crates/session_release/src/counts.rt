@@ -20,36 +20,40 @@ fn one_received(c: Counts) -> Counts
     requires { sum (counts_of c) < session_limit }
     ensures { counts_of result ≡ counted received (counts_of c) }
 {
-    let mut r = c;
-    r.received = c.received + 1;
-    r
+    Counts {
+        received: c.received + 1,
+        ..c
+    }
 }
 
 fn one_spare(c: Counts) -> Counts
     requires { sum (counts_of c) < session_limit }
     ensures { counts_of result ≡ counted spare (counts_of c) }
 {
-    let mut r = c;
-    r.spare = c.spare + 1;
-    r
+    Counts {
+        spare: c.spare + 1,
+        ..c
+    }
 }
 
 fn one_repaired(c: Counts) -> Counts
     requires { sum (counts_of c) < session_limit }
     ensures { counts_of result ≡ counted repaired (counts_of c) }
 {
-    let mut r = c;
-    r.repaired = c.repaired + 1;
-    r
+    Counts {
+        repaired: c.repaired + 1,
+        ..c
+    }
 }
 
 fn one_lost(c: Counts) -> Counts
     requires { sum (counts_of c) < session_limit }
     ensures { counts_of result ≡ counted unknown (counts_of c) }
 {
-    let mut r = c;
-    r.lost = c.lost + 1;
-    r
+    Counts {
+        lost: c.lost + 1,
+        ..c
+    }
 }
 
 // One more of the kind of the number that leaves: a number is counted as it leaves, not as it arrives (rule 12.13).

@@ -16,28 +16,25 @@ ghost use Rattle.session_release.specs.Promise.{MayMoveOn, MovesOn, Leaves, Rele
 
 use counts::{all_passed, count_one};
 use datagram::Parity;
-use length::Refusal;
+use length::{Reason, Refusal};
 use session_held::{Counts, ReleaseKind, Session};
 
-// What a release returns: the kind, number and note of what left and the size of its packet, note and size 0 if it is lost (rules 12.2 and
-// 12.4); or the refusal.
+// The number that left: its kind, number and note and the size of its packet, note and size 0 if it is lost (rules 12.2 and 12.4).
 #[derive(Drop)]
 #[derive(Clone, Copy)]
-pub enum Released {
-    Number {
-        kind: ReleaseKind,
-        number: u16,
-        note: u16,
-        size: usize,
-    },
-    Refused(Refusal),
+pub struct Released {
+    pub kind: ReleaseKind,
+    pub number: u16,
+    pub note: u16,
+    pub size: usize,
 }
 
+// What a release returns: the base and the counts after it, and what left, or the refusal.
 #[derive(Drop)]
 pub struct ReleaseDone {
     pub base: u16,
     pub counts: Counts,
-    pub answer: Released,
+    pub answer: Result<Released, Refusal>,
 }
 
 // The kind of a number that leaves in this state; a blank number never leaves (rule 9.3).
@@ -45,23 +42,19 @@ fn kind_of(state: u16) -> ReleaseKind
     requires { state < last_state }
     ensures { Named state result }
 {
-    if state == Session::UNKNOWN {
-        return ReleaseKind::Lost;
+    match state {
+        Session::UNKNOWN => ReleaseKind::Lost,
+        Session::RECEIVED => ReleaseKind::Received,
+        Session::SPARE => ReleaseKind::Spare,
+        _ => ReleaseKind::Repaired,
     }
-    if state == Session::RECEIVED {
-        return ReleaseKind::Received;
-    }
-    if state == Session::SPARE {
-        return ReleaseKind::Spare;
-    }
-    ReleaseKind::Repaired
 }
 
 // The number after n, modulo 65,536 (rule 2.35).
 fn number_after(n: u16) -> u16
     ensures { result ≡ following n }
 {
-    std::num::wrapping_add_u16(n, 1)
+    n.wrapping_add(1)
 }
 
 // Clears the first m messages of the number in slot j of those from the base on.
@@ -72,10 +65,8 @@ fn free_messages(messages: &mut [u8], j: usize, m: usize)
     ensures { Freed j m messages.old messages.new }
 {
     let at = j * Parity::MESSAGES;
-    let mut i = 0;
-    while i < m {
+    for i in 0..m {
         session_slots::clear(messages, at + i);
-        i += 1;
     }
 }
 
@@ -102,30 +93,26 @@ fn move_on(
     ensures { MovesOn (lent base counts table.old octets.old messages.old)
         (lent result.base result.counts table.new octets.new messages.new) }
 {
-    let moved = count_one(kind, counts);
-    let wide = octets::wide(base);
-    let comes = (wide + Session::BEFORE) % Session::KEPT;
+    let comes = (usize::from(base) + Session::BEFORE) % Session::KEPT;
     let leaves = session_held::heard_slot(base);
     let m = session_held::m_at(table, leaves);
     session_slots::clear(octets, comes);
     free_messages(messages, leaves, m);
     session_held::set_kept(table, comes, Session::UNKNOWN, 0, 0);
     session_held::drop_heard(table, leaves);
-    let after = number_after(base);
     Moved {
-        base: after,
-        counts: moved,
+        base: number_after(base),
+        counts: count_one(kind, counts),
     }
 }
 
-fn release_refused(base: u16, counts: Counts, number: u8) -> ReleaseDone
-    ensures { result ≡ release_refused base counts number }
+fn release_refused(base: u16, counts: Counts, reason: Reason) -> ReleaseDone
+    ensures { result ≡ release_refused base counts reason }
 {
-    let refusal = Refusal::new(number);
     ReleaseDone {
         base,
         counts,
-        answer: Released::Refused(refusal),
+        answer: Err(Refusal::new(reason)),
     }
 }
 
@@ -145,32 +132,29 @@ pub fn leave_core(
         (lent result.base result.counts table.new octets.new messages.new) result.answer }
 {
     if all_passed(counts) {
-        return release_refused(base, counts, Refusal::ALL_PASSED);
+        return release_refused(base, counts, Reason::AllPassed);
     }
     let slot = session_held::kept_slot(base);
     let state = session_held::state_at(table, slot);
-    let waits = (state == Session::UNKNOWN) & !skip;
-    if waits {
-        return release_refused(base, counts, Refusal::BASE_UNKNOWN);
+    if state == Session::UNKNOWN && !skip {
+        return release_refused(base, counts, Reason::BaseUnknown);
     }
     let size = session_held::size_at(table, slot);
     if room < size {
-        return release_refused(base, counts, Refusal::NO_ROOM);
+        return release_refused(base, counts, Reason::NoRoom);
     }
     let note = session_held::note_at(table, slot);
     let kind = kind_of(state);
     let moved = move_on(base, counts, kind, table, octets, messages);
-    let after = moved.base;
-    let left = moved.counts;
     ReleaseDone {
-        base: after,
-        counts: left,
-        answer: Released::Number {
+        base: moved.base,
+        counts: moved.counts,
+        answer: Ok(Released {
             kind,
             number: base,
             note,
             size,
-        },
+        }),
     }
 }
 
@@ -191,17 +175,9 @@ pub fn release_core(
         result.answer }
 {
     let done = leave_core(base, counts, table, octets, messages, skip, out.len());
-    let answer = done.answer;
-    let Released::Number {
-        kind: _,
-        number,
-        note: _,
-        size,
-    } = answer
-    else {
-        return done;
-    };
-    let slot = session_held::kept_slot(number);
-    session_slots::copy_out(octets, slot, size, out);
+    if let Ok(left) = done.answer {
+        let slot = session_held::kept_slot(left.number);
+        session_slots::copy_out(octets, slot, left.size, out);
+    }
     done
 }

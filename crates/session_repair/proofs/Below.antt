@@ -1,17 +1,15 @@
 -- The loop over a number's messages, on plain values: none of the messages so far is usable. Assumes nothing.
-use Rattle.std.proofs.Common.{◌≡◌, ℕ, ◌+◌, ◌*◌, ◌%◌, ◌<◌, ◌≤◌, false, List, length, sym, ap, ◌∙◌, ap₂, ⊎_elim, arith, eq-eqb, ne_eqb}
-use mathlib.Core.Option.{none}
+use Rattle.std.proofs.Common.{◌≡◌, ℕ, ◌+◌, ◌*◌, ◌%◌, ◌<◌, ◌≤◌, false, List, length, Some, None, sym, ap, ◌∙◌, ap₂, ⊎_elim, arith, eq-eqb, ne_eqb}
 use Rattle.octets.proofs.Laws.{same_or_not}
 use Rattle.datagram.specs.Sizes.{packet_limit, messages_limit}
 use Rattle.session.specs.Cells.{kept_before, kept_ahead}
-use Rattle.session.specs.Repair.{Message, usable}
+use Rattle.session.specs.Repair.{usable}
 use Rattle.session.specs.View.{numbers, number_at}
 use Rattle.session_held.specs.Slots.{heard_slot_at, slots_heard, message_octets}
 use Rattle.session_held.specs.Table.{n_in, m_in, message_size_in, cells_of}
 use Rattle.session_repair.specs.Back.{find_back}
 use Rattle.session_repair.specs.Promise.{Searchable, n_at, m_at, message_size_at, message_held, missing_of, LowestFound, Seeable}
 use Rattle.session_repair.specs.Promise.{LowestSeen}
-use Rattle.session_repair.specs.declared.searching.Lowest.TheVariants as lowest
 use Rattle.session_repair.proofs.Search.{missing_at, usable-is, target_is, messages-are, first-none, first_some}
 
 -- ---- the loop over a number's messages: none below i is usable
@@ -65,9 +63,9 @@ module _ {t : List ℕ} {at slot n m i index place size first unknown : ℕ} (s 
             (same_or_not k i);
       }
 
-  pub lowest-hit : {target : ℕ} → unknown ≡ 1 → target ≡ find_back t first n m → LowestSeen t at (lowest.Message index target)
+  pub lowest-hit : {target : ℕ} → unknown ≡ 1 → target ≡ find_back t first n m → LowestSeen t at (Some (record { index = index; slot = target }))
   lowest-hit {target} hit e-target = record { found = at_base } where
-    at_base : (base d : ℕ) → d < kept_ahead → at ≡ (base + d) % numbers → LowestFound base t d (lowest.Message index target)
+    at_base : (base d : ℕ) → d < kept_ahead → at ≡ (base + d) % numbers → LowestFound base t d (Some (record { index = index; slot = target }))
     at_base base d near e =
         let here = low s more e-index e-place e-size e-first e-unknown base d e in
         let count = unknown-is s more e-index e-place e-size e-first e-unknown base d e in
@@ -97,9 +95,9 @@ module _ {t : List ℕ} {at slot n m i index place size first unknown : ℕ} (s 
 
 -- no message of the number is usable
 none_seen : {t : List ℕ} {at slot m i : ℕ} → NoneBelow t at i → m ≤ i → slot ≡ at % slots_heard → m ≡ m_in t slot
-    → LowestSeen t at lowest.Nothing
+    → LowestSeen t at None
 none_seen {t} {at} {slot} {m} {i} b all e-slot e-m = record { found = at_base } where
-  at_base : (base d : ℕ) → d < kept_ahead → at ≡ (base + d) % numbers → LowestFound base t d lowest.Nothing
+  at_base : (base d : ℕ) → d < kept_ahead → at ≡ (base + d) % numbers → LowestFound base t d None
   at_base base d near e =
       let slot_is : slot ≡ heard_slot_at base d = e-slot ∙ omega arith in
       let m-is : m ≡ m_at base t d = e-m ∙ ap (λ (j : ℕ). m_in t j) slot_is in
@@ -112,7 +110,7 @@ none_seen {t} {at} {slot} {m} {i} b all e-slot e-m = record { found = at_base } 
         points = tt;
       }
 
-pub lowest-none : {t : List ℕ} {at slot n m i : ℕ} → Seeable t at slot n m → NoneBelow t at i → m ≤ i → LowestSeen t at lowest.Nothing
+pub lowest-none : {t : List ℕ} {at slot n m i : ℕ} → Seeable t at slot n m → NoneBelow t at i → m ≤ i → LowestSeen t at None
 lowest-none s b all = none_seen b all s.place s.count
 
 -- what is read of a number in the search
@@ -125,5 +123,5 @@ small_count {t} {slot} s small e = omega (arith, e, s.few slot small)
 
 -- a number without messages
 pub lowest-empty : {t : List ℕ} {at slot count : ℕ} → slot ≡ at % slots_heard → count ≡ m_in t slot → count ≡ 0
-    → LowestSeen t at lowest.Nothing
+    → LowestSeen t at None
 lowest-empty {t} {at} {slot} {count} e-slot e-m empty = none_seen (below-start t at) (omega arith) e-slot e-m

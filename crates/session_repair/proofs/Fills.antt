@@ -1,6 +1,6 @@
 -- One message used, and all that can be used: on plain values. The loop's invariant: what is left of the steps, done to what is
 -- there now, gives the whole. Assumes nothing.
-use Rattle.std.proofs.Common.{◌≡◌, ℕ, suc, ◌-◌, ◌<◌, ◌≤◌, true, List, length, take, sym, refl, ap, ◌∙◌, subst, ap₂, arith}
+use Rattle.std.proofs.Common.{◌≡◌, ℕ, suc, ◌<◌, ◌≤◌, true, List, length, take, Option, Some, None, sym, refl, ap, ◌∙◌, subst, ap₂, arith}
 use mathlib.Core.Option.{some}
 use Rattle.datagram.specs.Sizes.{packet_least, packet_limit, messages_limit}
 use Rattle.session.specs.Cells.{repaired, Cell, filled_cell, kept_numbers}
@@ -17,7 +17,6 @@ use Rattle.session_held.proofs.Laws.{beyond, placed-cells, placed-ranges, length
 use Rattle.session_repair.specs.Promise.{Searchable, message_size_at, message_held, Points, UsableFound, usable_answer, UsablePoints}
 use Rattle.session_repair.specs.Promise.{AskedOctets, SameBeside, MayMend, FilledNow, Fills, MendedNow, Mends}
 use Rattle.session_repair.specs.declared.searching.Usable.{Usable}
-use Rattle.session_repair.specs.declared.searching.Usable.TheVariants as usables
 use Rattle.session_repair.proofs.Beside.{same_beside, beside-twice, held-beside}
 use Rattle.session_repair.proofs.Search.{searchable, m-near, size-near, octets-long}
 use Rattle.session_repair.proofs.Sums.{asked-front}
@@ -124,7 +123,7 @@ end_with {left = left} m all =
     let none_left : left ≡ 0 = omega arith in
     mended-now m (rw none_left at m.steps)
 
-module _ {S base : ℕ} {counts : Counts} {g t₀ o₀ t o : List ℕ} {left : ℕ} (m : MendingWith S base counts g t₀ o₀ t o left) {found : Usable}
+module _ {S base : ℕ} {counts : Counts} {g t₀ o₀ t o : List ℕ} {left : ℕ} (m : MendingWith S base counts g t₀ o₀ t o left) {found : Option Usable}
     (f : UsableFound base t found) where
   -- the first usable message of what is there now, in the words of the whole
   found-now : first_usable (cells_of base t o) (held_messages (held_of base t₀ g)) ≡ usable_answer base t found g
@@ -132,34 +131,34 @@ module _ {S base : ℕ} {counts : Counts} {g t₀ o₀ t o : List ℕ} {left : �
       ap (λ (h : List Held). first_usable (cells_of base t o) (held_messages h)) (sym (held-beside m.beside g base))
       ∙ f.answer o g m.within.laid.messages
 
-  stop-with : found ≡ usables.Nothing → MendedNow S (lent base counts t₀ o₀ g) (lent base counts t o g)
+  stop-with : found ≡ None → MendedNow S (lent base counts t₀ o₀ g) (lent base counts t o g)
   stop-with e =
       mended-now m
       (sym (repair_f-done (filled_cell S repaired) left (cells_of base t o) (held_messages (held_of base t₀ g))
-      (found-now ∙ ap (λ (x : Usable). usable_answer base t x g) e))
+      (found-now ∙ ap (λ (x : Option Usable). usable_answer base t x g) e))
       ∙ m.steps)
 
-  module _ {d i slot : ℕ} (e : found ≡ usables.Message d i slot) where
-    some-now : first_usable (cells_of base t o) (held_messages (held_of base t₀ g)) ≡ some (message_held base t g d i)
-    some-now = found-now ∙ ap (λ (x : Usable). usable_answer base t x g) e
+  module _ {u : Usable} (e : found ≡ Some u) where
+    some-now : first_usable (cells_of base t o) (held_messages (held_of base t₀ g)) ≡ some (message_held base t g u.distance u.index)
+    some-now = found-now ∙ ap (λ (x : Option Usable). usable_answer base t x g) e
 
-    usable-with : usable (cells_of base t o) (message_held base t g d i) ≡ true
-    usable-with = (found-usable (cells_of base t o) (held_messages (held_of base t₀ g)) (message_held base t g d i) some-now).1
+    usable-with : usable (cells_of base t o) (message_held base t g u.distance u.index) ≡ true
+    usable-with = (found-usable (cells_of base t o) (held_messages (held_of base t₀ g)) (message_held base t g u.distance u.index) some-now).1
 
-    turn-with : {new_t new_o : List ℕ} → 0 < left → FilledNow S (lent base counts t o g) d i (lent base counts new_t new_o g)
-        → MendingWith S base counts g t₀ o₀ new_t new_o (left - 1)
-    turn-with {new_t} {new_o} more x =
-        let one : left ≡ suc (left - 1) = omega arith in
-        let whole : repair_f (filled_cell S repaired) (suc (left - 1)) (cells_of base t o) (held_messages (held_of base t₀ g))
+    turn-with : {new_t new_o : List ℕ} {rest : ℕ} → left ≡ suc rest
+        → FilledNow S (lent base counts t o g) u.distance u.index (lent base counts new_t new_o g)
+        → MendingWith S base counts g t₀ o₀ new_t new_o rest
+    turn-with {new_t} {new_o} {rest} one x =
+        let whole : repair_f (filled_cell S repaired) (suc rest) (cells_of base t o) (held_messages (held_of base t₀ g))
         ≡ repair (filled_cell S repaired) (cells_of base t₀ o₀) (held_messages (held_of base t₀ g)) = rw one at m.steps in
         record {
           within = x.within;
           beside = beside-twice m.beside x.beside;
           steps =
-              ap (λ (c : List Cell). repair_f (filled_cell S repaired) (left - 1) c (held_messages (held_of base t₀ g))) x.cells
+              ap (λ (c : List Cell). repair_f (filled_cell S repaired) rest c (held_messages (held_of base t₀ g))) x.cells
               ∙ sym
-              (repair_f-fill (filled_cell S repaired) (left - 1) (cells_of base t o) (held_messages (held_of base t₀ g))
-              (message_held base t g d i)
+              (repair_f-fill (filled_cell S repaired) rest (cells_of base t o) (held_messages (held_of base t₀ g))
+              (message_held base t g u.distance u.index)
               some-now)
               ∙ whole;
         }
@@ -186,19 +185,19 @@ module _ {S base : ℕ} {g t₀ o₀ t o : List ℕ} {left : ℕ} (m : Mending S
   pub mending-end : left ≤ 0 → Mends S base t₀ o₀ g t o
   mending-end all = record { mends = λ c w. end_with (m.each c w) all }
 
-  module _ {found : Usable} (f : UsableFound base t found) where
-    pub mending-stop : found ≡ usables.Nothing → Mends S base t₀ o₀ g t o
+  module _ {found : Option Usable} (f : UsableFound base t found) where
+    pub mending-stop : found ≡ None → Mends S base t₀ o₀ g t o
     mending-stop e = record { mends = λ c w. stop-with (m.each c w) f e }
 
-    module _ {d i slot : ℕ} (e : found ≡ usables.Message d i slot) where
-      pub mending-usable : usable (cells_of base t o) (message_held base t g d i) ≡ true
+    module _ {u : Usable} (e : found ≡ Some u) where
+      pub mending-usable : usable (cells_of base t o) (message_held base t g u.distance u.index) ≡ true
       mending-usable = usable-with some-counts f e
 
-      pub mending-points : Points base t d i slot
-      mending-points = subst (λ (x : Usable). UsablePoints base t x) e f.points
+      pub mending-points : Points base t u.distance u.index u.slot
+      mending-points = subst (λ (x : Option Usable). UsablePoints base t x) e f.points
 
-      pub mending-turn : {new_t new_o : List ℕ} → 0 < left → Fills S base t o g d i new_t new_o
-          → Mending S base g t₀ o₀ new_t new_o (left - 1)
+      pub mending-turn : {new_t new_o : List ℕ} {rest : ℕ} → left ≡ suc rest → Fills S base t o g u.distance u.index new_t new_o
+          → Mending S base g t₀ o₀ new_t new_o rest
       mending-turn more x =
           record {
             may = m.may;

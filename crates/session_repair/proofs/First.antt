@@ -1,6 +1,6 @@
 -- The loop over the numbers from the base on: what is left to search holds the whole answer, and once all messages are seen the
 -- numbers left have none. Assumes nothing.
-use Rattle.std.proofs.Common.{◌≡◌, ℕ, zero, suc, ◌+◌, ◌-◌, ◌*◌, ◌%◌, ◌<◌, ◌≤◌, List, ◌++◌, length, sym, refl, ap, ◌∙◌, ap₂, add-one, arith}
+use Rattle.std.proofs.Common.{◌≡◌, ℕ, zero, suc, ◌+◌, ◌-◌, ◌*◌, ◌%◌, ◌<◌, ◌≤◌, List, ◌++◌, length, Option, Some, None, sym, refl, ap, ◌∙◌, ap₂, add-one, arith}
 use Rattle.datagram.specs.Sizes.{messages_limit}
 use Rattle.session.specs.Cells.{kept_before, kept_ahead}
 use Rattle.session.specs.Repair.{first_usable}
@@ -13,10 +13,8 @@ use Rattle.session_held.proofs.Laws.{length-held, held-at}
 use Rattle.session_repair.specs.Back.{sum_to, MessageCount, count_all}
 use Rattle.session_repair.specs.Promise.{m_at, message_held, LowestFound, LowestSeen, UsableFound}
 use Rattle.session_repair.specs.declared.searching.Lowest.{Lowest}
-use Rattle.session_repair.specs.declared.searching.Lowest.TheVariants as lowest
-use Rattle.session_repair.specs.declared.searching.Usable.TheVariants as usables
 use Rattle.session_repair.proofs.Below.{lowest-empty}
-use Rattle.session_repair.proofs.Totals.{sum_more, some_left, none_left}
+use Rattle.session_repair.proofs.Totals.{sum_more, none_left}
 
 pub record Searched (base : ℕ) (t : List ℕ) (d : ℕ) : Type 0 where
   pub few : d ≤ kept_ahead
@@ -35,9 +33,9 @@ module _ {base : ℕ} {t : List ℕ} {d : ℕ} (s : Searched base t d) (more : d
       held_from-turn (held_of base t g) d (rw (length-held base t g) more)
       ∙ ap (λ (x : Held). messages_of (kept_before + d) x ++ held_from (held_of base t g) (suc d)) (held-at base t g d more)
 
-  pub searched-turn : {at : ℕ} {r : Lowest} → at ≡ (base + d) % numbers → LowestSeen t at r → r ≡ lowest.Nothing → Searched base t (d + 1)
+  pub searched-turn : {at : ℕ} {r : Option Lowest} → at ≡ (base + d) % numbers → LowestSeen t at r → r ≡ None → Searched base t (d + 1)
   searched-turn e-at seen e =
-      let f : LowestFound base t d lowest.Nothing = rw e at (seen.found base d more e-at) in
+      let f : LowestFound base t d None = rw e at (seen.found base d more e-at) in
       record {
         few = omega arith;
         left =
@@ -48,16 +46,16 @@ module _ {base : ℕ} {t : List ℕ} {d : ℕ} (s : Searched base t d) (more : d
             ∙ ap (λ (k : ℕ). first_usable (cells_of base t o) (held_from (held_of base t g) k)) (sym (add-one d));
       }
 
-  pub searched-hit : {at : ℕ} {r : Lowest} {i slot : ℕ} → at ≡ (base + d) % numbers → LowestSeen t at r → r ≡ lowest.Message i slot
-      → UsableFound base t (usables.Message d i slot)
-  searched-hit {at} {r} {i} {slot} e-at seen e =
-      let f : LowestFound base t d (lowest.Message i slot) = rw e at (seen.found base d more e-at) in
+  pub searched-hit : {at : ℕ} {r : Option Lowest} {low : Lowest} → at ≡ (base + d) % numbers → LowestSeen t at r → r ≡ Some low
+      → UsableFound base t (Some (record { distance = d; index = low.index; slot = low.slot }))
+  searched-hit {at} {r} {low} e-at seen e =
+      let f : LowestFound base t d (Some low) = rw e at (seen.found base d more e-at) in
       record {
         answer =
             λ o g long.
             s.left o g long
             ∙ ap (first_usable (cells_of base t o)) (parted g)
-            ∙ first_usable-front (cells_of base t o) _ _ (message_held base t g d i) (f.answer o g long);
+            ∙ first_usable-front (cells_of base t o) _ _ (message_held base t g d low.index) (f.answer o g long);
         points = f.points;
       }
 
@@ -75,7 +73,7 @@ searched-rest (suc n) {base} {t} {d} s e none =
     searched-rest n (searched-empty s (omega arith) (none d (omega arith) (omega arith))) (omega arith)
     (λ k past low. none k (omega arith) low)
 
-searched-all : {base : ℕ} {t : List ℕ} → Searched base t kept_ahead → UsableFound base t usables.Nothing
+searched-all : {base : ℕ} {t : List ℕ} → Searched base t kept_ahead → UsableFound base t None
 unfolding first_usable
 searched-all {base} {t} s =
     record {
@@ -96,28 +94,32 @@ pub seen_start : (base : ℕ) (t : List ℕ) → Seen base t 0 0
 unfolding sum_to
 seen_start base t = record { searched = searched-start base t; same = refl; small = omega arith }
 
-module _ {base : ℕ} {t : List ℕ} {total seen d : ℕ} (s : Seen base t seen d) (e-total : total ≡ count_all t) where
-  pub more_left : seen < total → d < kept_ahead
-  more_left more = some_left base t d s.searched.few (omega (arith, more, e-total, s.same))
+module _ {base : ℕ} {t : List ℕ} {seen d : ℕ} (s : Seen base t seen d) where
+  pub seen-hit : {at : ℕ} {r : Option Lowest} {low : Lowest} → d < kept_ahead → at ≡ (base + d) % numbers → LowestSeen t at r
+      → r ≡ Some low
+      → UsableFound base t (Some (record { distance = d; index = low.index; slot = low.slot }))
+  seen-hit more = searched-hit s.searched more
 
-  pub seen-hit : {at : ℕ} {r : Lowest} {i slot : ℕ} → seen < total → at ≡ (base + d) % numbers → LowestSeen t at r
-      → r ≡ lowest.Message i slot
-      → UsableFound base t (usables.Message d i slot)
-  seen-hit more = searched-hit s.searched (more_left more)
-
-  pub seen-turn : {at place m : ℕ} {r : Lowest} → seen < total → at ≡ (base + d) % numbers → LowestSeen t at r → r ≡ lowest.Nothing
+  pub seen-turn : {at place m : ℕ} {r : Option Lowest} → d < kept_ahead → at ≡ (base + d) % numbers → LowestSeen t at r → r ≡ None
       → place ≡ at % slots_heard → MessageCount t place m → Seen base t (seen + m) (d + 1)
   seen-turn {at} {place} {m} more e-at low e e-place c =
       let here : place ≡ heard_slot_at base d = omega arith in
       record {
-        searched = searched-turn s.searched (more_left more) e-at low e;
+        searched = searched-turn s.searched more e-at low e;
         same = ap₂ (λ (a b : ℕ). a + b) s.same (c.same ∙ ap (m_in t) here) ∙ sym (sum_more d (m_at base t));
         small = omega (arith, s.small, c.small);
       }
 
-  pub seen_done : total ≤ seen → UsableFound base t usables.Nothing
-  seen_done all =
+  -- all messages are seen
+  pub seen_done : {total : ℕ} → total ≡ count_all t → seen ≡ total → UsableFound base t None
+  seen_done {total} e-total all =
       let few = s.searched.few in
       searched-all
       (searched-rest (kept_ahead - d) s.searched (omega arith)
       (none_left base t d few (omega (arith, all, e-total, s.same))))
+
+  -- all numbers are searched
+  pub seen-last : kept_ahead ≤ d → UsableFound base t None
+  seen-last past =
+      let whole : d ≡ kept_ahead = omega (arith, s.searched.few) in
+      searched-all (rw whole at s.searched)

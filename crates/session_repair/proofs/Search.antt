@@ -18,7 +18,6 @@ use Rattle.session_held.specs.Laid.{InRanges}
 use Rattle.session_held.proofs.Laws.{n-small, heard-small, message-small, has-message-slot}
 use Rattle.session_repair.specs.Back.{count_back, find_back}
 use Rattle.session_repair.specs.Promise.{Searchable, n_at, m_at, message_size_at, message_held, missing_of, Seeable}
-use Rattle.session_repair.specs.declared.searching.Lowest.TheVariants as lowest
 use Rattle.session_repair.proofs.Members.{counted, found-slot}
 
 -- within the ranges the table can be searched

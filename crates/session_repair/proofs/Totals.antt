@@ -54,14 +54,6 @@ module _ (base : ℕ) (t : List ℕ) where
       ∙ sym (sum-parts r s (m_in t))
       ∙ ap (λ (n : ℕ). sum_to n (m_in t)) back
 
-  -- some are not seen: a number is left
-  pub some_left : (d : ℕ) → d ≤ kept_ahead → sum_to d (m_at base t) < count_all t → d < kept_ahead
-  some_left d few less =
-      ⊎_elim
-      (λ (e : d ≡ kept_ahead). absurd (omega (arith, ap (λ (n : ℕ). sum_to n (m_at base t)) e, turned)))
-      (λ other. omega arith)
-      (same_or_not d kept_ahead)
-
   -- all are seen: the numbers left have none
   pub none_left : (d : ℕ) → d ≤ kept_ahead → count_all t ≤ sum_to d (m_at base t) → (k : ℕ) → d ≤ k → k < kept_ahead → m_at base t k ≡ 0
   none_left d few all k past low =

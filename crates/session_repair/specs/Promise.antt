@@ -1,12 +1,12 @@
 -- What the searches, the fill and the whole repair promise, a record for each (rules 11.1 to 11.4). A search reads only the table, so its
 -- promise holds for every pair of stores. Definitions only.
-use Rattle.std.specs.Prelude.{◌≡◌, ℕ, ◌+◌, ◌%◌, ◌<◌, ◌≤◌, cond, List, ◌∷◌, map, length, ◌==◌, slice_index}
-use Rattle.std.proofs.Math.Option.{Option, none, some}
+use Rattle.std.specs.Prelude.{◌≡◌, ℕ, ◌+◌, ◌%◌, ◌<◌, ◌≤◌, cond, List, ◌∷◌, map, length, ◌==◌, slice_index, Option, Some, None}
+use Rattle.std.proofs.Math.Option as maths
 use Rattle.octets.specs.ExclusiveOr.{xor_at}
 use Rattle.datagram.specs.Sizes.{packet_limit, covered_limit, messages_limit}
 use Rattle.session.specs.Cells.{repaired, filled_cell, cell_at, kept_before, kept_ahead}
 use Rattle.session.specs.Members.{members_of}
-use Rattle.session.specs.Repair.{Message, unknown_members, other_members, first_usable, mended, fill, repair}
+use Rattle.session.specs.Repair.{Message, unknown_members, other_members, first_usable, fill, repair}
 use Rattle.session.specs.Held.{messages_of, held_messages}
 use Rattle.session.specs.View.{View, numbers}
 use Rattle.session_held.specs.Slots.{slot_at, heard_slot_at, message_slot, slots_kept, slots_heard, message_octets}
@@ -15,9 +15,7 @@ use Rattle.session_held.specs.Laid.{InRanges}
 use Rattle.session_held.specs.declared.Counts.{Counts}
 use Rattle.session_repair.specs.Back.{count_back}
 use Rattle.session_repair.specs.declared.searching.Usable.{Usable}
-use Rattle.session_repair.specs.declared.searching.Usable.TheVariants as usables
 use Rattle.session_repair.specs.declared.searching.Lowest.{Lowest}
-use Rattle.session_repair.specs.declared.searching.Lowest.TheVariants as lowest
 
 -- what the searches require of the table: n, m and the lengths of messages are within the sizes (rule 13.8)
 pub record Searchable (table : List ℕ) : Type 0 where
@@ -55,15 +53,15 @@ pub record Points (base : ℕ) (table : List ℕ) (d i slot : ℕ) : Type 0 wher
       → slot ≡ slot_at base (slice_index (unknown_members (cells_of base table octets) (message_held base table messages d i)) 0)
 
 -- the lowest usable message of the number at distance d (rule 11.2)
-abbrev pub lowest_answer : ℕ → List ℕ → ℕ → Lowest → List ℕ → Option Message
-lowest_answer base table d (lowest.Message i slot) messages = some (message_held base table messages d i)
-lowest_answer base table d lowest.Nothing messages = none
+abbrev pub lowest_answer : ℕ → List ℕ → ℕ → Option Lowest → List ℕ → maths.Option Message
+lowest_answer base table d (Some low) messages = maths.some (message_held base table messages d low.index)
+lowest_answer base table d None messages = maths.none
 
-abbrev pub LowestPoints : ℕ → List ℕ → ℕ → Lowest → Type 0
-LowestPoints base table d (lowest.Message i slot) = Points base table d i slot
-LowestPoints base table d lowest.Nothing = Unit {0}
+abbrev pub LowestPoints : ℕ → List ℕ → ℕ → Option Lowest → Type 0
+LowestPoints base table d (Some low) = Points base table d low.index low.slot
+LowestPoints base table d None = Unit {0}
 
-pub record LowestFound (base : ℕ) (table : List ℕ) (d : ℕ) (r : Lowest) : Type 0 where
+pub record LowestFound (base : ℕ) (table : List ℕ) (d : ℕ) (r : Option Lowest) : Type 0 where
   pub answer : (octets messages : List ℕ) → length messages ≡ message_octets
       → first_usable (cells_of base table octets) (messages_of (kept_before + d) (held_in table messages (heard_slot_at base d)))
       ≡ lowest_answer base table d r messages
@@ -77,19 +75,19 @@ pub record Seeable (t : List ℕ) (at slot n m : ℕ) : Type 0 where
   pub count : m ≡ m_in t slot
 
 -- what it promises: the answer for every base that has that number at a distance below 32
-pub record LowestSeen (table : List ℕ) (at : ℕ) (r : Lowest) : Type 0 where
+pub record LowestSeen (table : List ℕ) (at : ℕ) (r : Option Lowest) : Type 0 where
   pub found : (base d : ℕ) → d < kept_ahead → at ≡ (base + d) % numbers → LowestFound base table d r
 
 -- the first usable message, counted from the base on (rule 11.2)
-abbrev pub usable_answer : ℕ → List ℕ → Usable → List ℕ → Option Message
-usable_answer base table (usables.Message d i slot) messages = some (message_held base table messages d i)
-usable_answer base table usables.Nothing messages = none
+abbrev pub usable_answer : ℕ → List ℕ → Option Usable → List ℕ → maths.Option Message
+usable_answer base table (Some found) messages = maths.some (message_held base table messages found.distance found.index)
+usable_answer base table None messages = maths.none
 
-abbrev pub UsablePoints : ℕ → List ℕ → Usable → Type 0
-UsablePoints base table (usables.Message d i slot) = Points base table d i slot
-UsablePoints base table usables.Nothing = Unit {0}
+abbrev pub UsablePoints : ℕ → List ℕ → Option Usable → Type 0
+UsablePoints base table (Some found) = Points base table found.distance found.index found.slot
+UsablePoints base table None = Unit {0}
 
-pub record UsableFound (base : ℕ) (table : List ℕ) (r : Usable) : Type 0 where
+pub record UsableFound (base : ℕ) (table : List ℕ) (r : Option Usable) : Type 0 where
   pub answer : (octets messages : List ℕ) → length messages ≡ message_octets
       → first_usable (cells_of base table octets) (held_messages (held_of base table messages)) ≡ usable_answer base table r messages
   pub points : UsablePoints base table r

@@ -24,13 +24,9 @@ fn add_members(octets: &[u8], x: u16, n: usize, m: u16, sum: &mut [u8])
     ensures { Summed octets.now x n m sum.old sum.new }
 {
     let mut at = x;
-    let mut k = 0;
-    while k < n {
-        let member = back(at, m);
-        at = member;
-        let slot = session_held::kept_slot(member);
-        session_slots::add(octets, slot, sum);
-        k += 1;
+    for _ in 0..n {
+        at = back(at, m);
+        session_slots::add(octets, session_held::kept_slot(at), sum);
     }
 }
 
@@ -40,10 +36,8 @@ fn size_of(base: u16, table: &[u16], distance: u16, index: usize) -> usize
     requires index_lt_messages_limit { index < messages_limit }
     ensures { result ≡ message_size_at base table.now distance index }
 {
-    let at = std::num::wrapping_add_u16(base, distance);
-    let slot = session_held::heard_slot(at);
-    let place = slot * Parity::MESSAGES + index;
-    session_held::message_size_at(table, place)
+    let slot = session_held::heard_slot(base.wrapping_add(distance));
+    session_held::message_size_at(table, slot * Parity::MESSAGES + index)
 }
 
 // The exclusive or of a message and its known members over the first `width` octets: what the message requires of its unknown members
@@ -64,7 +58,7 @@ pub fn asked(
     requires width_le_packet_limit { width ≤ packet_limit }
     ensures { AskedOctets base table.now octets.now messages.now distance index width result }
 {
-    let at = std::num::wrapping_add_u16(base, distance);
+    let at = base.wrapping_add(distance);
     let slot = session_held::heard_slot(at);
     let n = session_held::n_at(table, slot);
     let m = narrow(session_held::m_at(table, slot));
@@ -72,34 +66,29 @@ pub fn asked(
     let size = session_held::message_size_at(table, place);
     let mut sum = [0u8; Packet::LIMIT];
     session_slots::copy_out(messages, place, size, &mut sum);
-    let first = std::num::wrapping_add_u16(at, narrow(index));
+    let first = at.wrapping_add(narrow(index));
     add_members(octets, first, n, m, &mut sum[..width]);
     sum
 }
 
 // Uses one usable message: its unknown member becomes repaired (rule 11.3), and its note is the number of the datagram being offered (rule
 // 9.8).
-fn fill(
-    base: u16,
-    table: &mut [u16],
-    octets: &mut [u8],
-    messages: &[u8],
-    distance: u16,
-    index: usize,
-    slot: usize,
-    note: u16,
-)
+fn fill(base: u16, table: &mut [u16], octets: &mut [u8], messages: &[u8], found: Usable, note: u16)
     requires may_mend { MayMend base table.old octets.old messages.now }
-    requires points { Points base table.old distance index slot }
-    requires index_value { usable (cells_of base table.old octets.old) (message_held base table.old messages.now distance index) ≡ true }
-    ensures { Fills note base table.old octets.old messages.now distance index table.new
+    requires points { Points base table.old found.distance found.index found.slot }
+    requires index_value { usable (cells_of base table.old octets.old) (message_held base table.old messages.now found.distance found.index) ≡ true }
+    ensures { Fills note base table.old octets.old messages.now found.distance found.index table.new
         octets.new }
 {
+    let Usable {
+        distance,
+        index,
+        slot,
+    } = found;
     let size = size_of(base, table, distance, index);
     let sum = asked(base, table, octets, messages, distance, index, size);
     session_slots::put(octets, slot, &sum[..size]);
-    let length = narrow(size);
-    session_held::set_kept(table, slot, Session::REPAIRED, length, note);
+    session_held::set_kept(table, slot, Session::REPAIRED, narrow(size), note);
 }
 
 // Repairs until no message is usable (rule 11.4). The note of each fill is the number of the datagram being offered (rule 9.8).
@@ -114,18 +103,10 @@ pub fn mend(
     ensures { Mends note base table.old octets.old messages.now table.new
         octets.new }
 {
-    let mut left = Session::KEPT;
-    while 0 < left {
-        let found = first_usable(base, table);
-        let Usable::Message {
-            distance,
-            index,
-            slot,
-        } = found
-        else {
+    for _ in 0..Session::KEPT {
+        let Some(found) = first_usable(base, table) else {
             return;
         };
-        fill(base, table, octets, messages, distance, index, slot, note);
-        left -= 1;
+        fill(base, table, octets, messages, found, note);
     }
 }

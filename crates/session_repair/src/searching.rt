@@ -12,20 +12,17 @@ use session_held::Session;
 
 // A usable message: the distance of its number from the base, its index, and the slot of its one unknown member.
 #[derive(Drop)]
-pub enum Usable {
-    Message {
-        distance: u16,
-        index: usize,
-        slot: usize,
-    },
-    Nothing,
+pub struct Usable {
+    pub distance: u16,
+    pub index: usize,
+    pub slot: usize,
 }
 
 // The lowest usable message of a number, and the slot of its unknown member.
 #[derive(Drop)]
-enum Lowest {
-    Message { index: usize, slot: usize },
-    Nothing,
+struct Lowest {
+    index: usize,
+    slot: usize,
 }
 
 // A count or a size, as the table keeps it.
@@ -42,18 +39,18 @@ fn unknown_one(table: &[u16], slot: usize) -> usize
     requires slot_lt_slots_kept { slot < slots_kept }
     ensures { OneUnknown table.now slot result }
 {
-    let state = session_held::state_at(table, slot);
-    if state == Session::UNKNOWN {
-        return 1;
+    if session_held::state_at(table, slot) == Session::UNKNOWN {
+        1
+    } else {
+        0
     }
-    0
 }
 
 // The number m before x, modulo 65,536 (rule 2.35).
 pub fn back(x: u16, m: u16) -> u16
     ensures { result ≡ distance m x }
 {
-    std::num::wrapping_sub_u16(x, m)
+    x.wrapping_sub(m)
 }
 
 // How many of the n numbers x - m, x - 2m, .. are unknown.
@@ -64,14 +61,9 @@ fn count_back(table: &[u16], x: u16, n: usize, m: u16) -> usize
 {
     let mut at = x;
     let mut count = 0;
-    let mut k = 0;
-    while k < n {
-        let member = back(at, m);
-        at = member;
-        let slot = session_held::kept_slot(member);
-        let one = unknown_one(table, slot);
-        count = count + one;
-        k += 1;
+    for _ in 0..n {
+        at = back(at, m);
+        count += unknown_one(table, session_held::kept_slot(at));
     }
     count
 }
@@ -82,16 +74,12 @@ fn find_back(table: &[u16], x: u16, n: usize, m: u16) -> usize
     ensures { result ≡ find_back table.now x n m }
 {
     let mut at = x;
-    let mut k = 0;
-    while k < n {
-        let member = back(at, m);
-        at = member;
-        let slot = session_held::kept_slot(member);
-        let one = unknown_one(table, slot);
-        if one == 1 {
+    for _ in 0..n {
+        at = back(at, m);
+        let slot = session_held::kept_slot(at);
+        if unknown_one(table, slot) == 1 {
             return slot;
         }
-        k += 1;
     }
     Session::KEPT
 }
@@ -103,48 +91,43 @@ fn missing(size: usize, table: &[u16], x: u16, n: usize, m: u16) -> usize
     ensures { result ≡ missing_of size table.now x n m }
 {
     if size == 0 {
-        return 0;
+        0
+    } else {
+        count_back(table, x, n, m)
     }
-    count_back(table, x, n, m)
 }
 
 // The lowest usable message of a number that has m messages over n packets each (rule 11.2).
-fn lowest_among(table: &[u16], at: u16, slot: usize, n: usize, m: u16) -> Lowest
+fn lowest_among(table: &[u16], at: u16, slot: usize, n: usize, m: u16) -> Option<Lowest>
     requires { Seeable table.now at slot n m }
     ensures { LowestSeen table.now at result }
 {
-    let mut i: u16 = 0;
-    while i < m {
-        let index = octets::wide(i);
-        let place = slot * Parity::MESSAGES + index;
-        let size = session_held::message_size_at(table, place);
-        let first = std::num::wrapping_add_u16(at, i);
-        let unknown = missing(size, table, first, n, m);
-        if unknown == 1 {
-            let target = find_back(table, first, n, m);
-            return Lowest::Message {
+    for i in 0..m {
+        let index = usize::from(i);
+        let size = session_held::message_size_at(table, slot * Parity::MESSAGES + index);
+        let first = at.wrapping_add(i);
+        if missing(size, table, first, n, m) == 1 {
+            return Some(Lowest {
                 index,
-                slot: target,
-            };
+                slot: find_back(table, first, n, m),
+            });
         }
-        i += 1;
     }
-    Lowest::Nothing
+    None
 }
 
 // The lowest usable message of a number; most numbers have no messages.
-fn lowest_usable(table: &[u16], at: u16) -> Lowest
+fn lowest_usable(table: &[u16], at: u16) -> Option<Lowest>
     requires { Searchable table.now }
     ensures { LowestSeen table.now at result }
 {
     let slot = session_held::heard_slot(at);
     let count = session_held::m_at(table, slot);
     if count == 0 {
-        return Lowest::Nothing;
+        return None;
     }
     let n = session_held::n_at(table, slot);
-    let m = narrow(count);
-    lowest_among(table, at, slot, n, m)
+    lowest_among(table, at, slot, n, narrow(count))
 }
 
 // How many messages a number has, and how many all numbers have.
@@ -153,46 +136,40 @@ fn count_at(table: &[u16], slot: usize) -> u16
     requires slot_lt_slots_heard { slot < slots_heard }
     ensures { MessageCount table.now slot result }
 {
-    let m = session_held::m_at(table, slot);
-    narrow(m)
+    narrow(session_held::m_at(table, slot))
 }
 
 fn count_all(table: &[u16]) -> u16
     requires { Searchable table.now }
     ensures { result ≡ count_all table.now }
 {
-    let mut total: u16 = 0;
-    let mut j = 0;
-    while j < Session::HEARD {
-        let m = count_at(table, j);
-        total = total + m;
-        j += 1;
+    let mut total = 0;
+    for j in 0..Session::HEARD {
+        total += count_at(table, j);
     }
     total
 }
 
 // The first usable message, of the numbers counted from the base on (rule 11.2); the search ends when it has seen all messages.
-pub fn first_usable(base: u16, table: &[u16]) -> Usable
+pub fn first_usable(base: u16, table: &[u16]) -> Option<Usable>
     requires { Searchable table.now }
     ensures { UsableFound base table.now result }
 {
     let total = count_all(table);
-    let mut seen: u16 = 0;
-    let mut distance: u16 = 0;
-    while seen < total {
-        let at = std::num::wrapping_add_u16(base, distance);
-        let found = lowest_usable(table, at);
-        if let Lowest::Message { index, slot } = found {
-            return Usable::Message {
-                distance,
-                index,
-                slot,
-            };
+    let mut seen = 0;
+    for distance in 0..Session::AHEAD {
+        if seen == total {
+            return None;
         }
-        let place = session_held::heard_slot(at);
-        let m = count_at(table, place);
-        seen = seen + m;
-        distance += 1;
+        let at = base.wrapping_add(distance);
+        if let Some(lowest) = lowest_usable(table, at) {
+            return Some(Usable {
+                distance,
+                index: lowest.index,
+                slot: lowest.slot,
+            });
+        }
+        seen += count_at(table, session_held::heard_slot(at));
     }
-    Usable::Nothing
+    None
 }

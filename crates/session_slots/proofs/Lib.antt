@@ -1,3 +1,4 @@
 pub mod Cases
+mod Copying
 mod Turns
 pub mod Laws

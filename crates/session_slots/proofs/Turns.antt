@@ -1,19 +1,15 @@
--- What each loop of this crate keeps true, on plain values: where it starts, what a turn does, where it ends.
--- Assumes nothing.
+-- What the loops of this crate keep true, and what becomes of a slot as a run, on plain values. Assumes nothing.
 use Prim.Native.Nat.{ℕ, ◌+◌, ◌-◌, ◌*◌, ◌%◌, ◌^◌, ◌≤◌, ◌<◌}
 use mathlib.Core.Path.{◌≡◌, refl, sym, ap, ap₂, ◌∙◌}
 use mathlib.Core.Bool.{Bool, true, ◌&&◌, ◌||◌}
-use mathlib.Core.List.{List, ◌++◌, append-nil, append_assoc}
+use mathlib.Core.List.{List, ◌++◌, append_assoc}
 use mathlib.Core.Logic.{⊎_elim}
-use lib.ListN.{length, get_or, set, take, drop, replicate, length-set}
-use lib.ListN.{length-drop, drop_of_length-le}
-use lib.Seq.{paste, paste-zero, paste-suc, get_or-drop, get_or-take, drop-drop, length-take-le, take-length}
+use lib.ListN.{length, get_or, take, drop}
+use lib.ListN.{length-drop}
+use lib.Seq.{get_or-drop, get_or-take, drop-drop, length-take-le, take-length}
 use lib.Bits.{bit_and, bit_xor, and_zero_r, and_mask}
 use lib.Dec.{ltb, eqb}
-use native.Mathlib.Nat.{zero-add, le_refl}
-use native.Mathlib.Numerals.{add-one}
 use native.Mathlib.Omega.{arith}
-use borrow.Author.Fill.{fill_none, fill_more}
 use borrow.Author.Tests.{lt-ltb, le-ltb}
 use borrow.Rule.Slice.PartMut.{mid_of, put_mid}
 use Rattle.octets.specs.Place.{all_below}
@@ -21,61 +17,7 @@ use Rattle.octets.proofs.Laws.{all_below-more, all_below-ext, tab-ext, below_or_
 use Rattle.octets.specs.Words.{both}
 use Rattle.datagram.specs.Sizes.{packet_limit}
 use Rattle.session_slots.specs.Store.{pasted, zeros, zeros_from, zeros_past, mask_over, mask, part, added, HasSlot}
-use Rattle.session_slots.proofs.Laws.{length-zeros, length-mask, mask_low, mask-high, length_part, part_at}
-
--- ---- laying octets b into o from place `at` on: j of them are laid
-pub record Laying (start b : List ℕ) (at : ℕ) (o : List ℕ) (j : ℕ) : Type 0 where
-  pub laid : o ≡ paste start at b j
-  pub few : j ≤ length b
-  pub long : length o ≡ length start
-
-pub laying-start : (o b : List ℕ) (at : ℕ) → Laying o b at o 0
-laying-start o b at = record { laid = paste-zero o at b; few = omega arith; long = refl }
-
-module _ {start b o : List ℕ} {at j : ℕ} (l : Laying start b at o j) (fits : at + length b ≤ length start) (more : j < length b) where
-  pub laying-turn : Laying start b at (set o (at + j) (get_or b j 0)) (j + 1)
-  laying-turn =
-      record {
-        laid = rw (l.laid, add-one) (paste-suc start at b j 0 (omega arith) more);
-        few = omega arith;
-        long = length-set o (at + j) (get_or b j 0) ∙ l.long;
-      }
-
-pub putting-turn : (slot : ℕ) {start b o : List ℕ} {j : ℕ} → Laying start b (slot * packet_limit) o j → HasSlot slot start
-    → length b ≤ packet_limit → j < length b → Laying start b (slot * packet_limit) (set o (slot * packet_limit + j) (get_or b j 0)) (j + 1)
-putting-turn slot l has fits more = laying-turn l (omega arith) more
-
-pub laying-done : (slot : ℕ) {start b o : List ℕ} {j : ℕ} → Laying start b (slot * packet_limit) o j → length b ≤ j → o ≡ pasted start slot b
-unfolding pasted
-laying-done slot {start} {b} {o} {j} l done =
-    let all : j ≡ length b = omega (arith, l.few) in
-    l.laid ∙ ap (λ (n : ℕ). paste start (slot * packet_limit) b n) all
-
--- ---- the loop that clears a run: j of its octets are zero
-pub record Clearing (start run : List ℕ) (j : ℕ) : Type 0 where
-  pub so : run ≡ replicate j 0 ++ drop j start
-  pub few : j ≤ length start
-  pub long : length run ≡ length start
-
-pub clearing-start : (run : List ℕ) → Clearing run run 0
-clearing-start run = record { so = fill_none run 0; few = omega arith; long = refl }
-
-pub clearing-turn : {start run : List ℕ} {j : ℕ} → Clearing start run j → j < length run → Clearing start (set run j 0) (j + 1)
-clearing-turn {start} {run} {j} c more =
-    record {
-      so = rw c.so (fill_more j 0 start (omega (arith, c.long)));
-      few = omega (arith, c.long);
-      long = length-set run j 0 ∙ c.long;
-    }
-
-pub clearing-done : {start run : List ℕ} {j : ℕ} → Clearing start run j → length run ≤ j → run ≡ zeros (length start)
-unfolding zeros
-clearing-done {start} {run} {j} c done =
-    let all : j ≡ length start = omega (arith, c.few, c.long) in
-    c.so
-    ∙ ap (λ (n : ℕ). replicate n 0 ++ drop n start) all
-    ∙ ap (λ (l : List ℕ). replicate (length start) 0 ++ l) (drop_of_length-le start (le_refl (length start)))
-    ∙ append-nil (replicate (length start) 0)
+use Rattle.session_slots.proofs.Laws.{length-zeros, length-mask, mask_low, mask-high}
 
 -- ---- the zero check: the first j octets of a run are right
 abbrev pub right : List ℕ → ℕ → ℕ → Bool
@@ -169,24 +111,13 @@ pub slot-mask : (o : List ℕ) (slot : ℕ) {table : List ℕ} → HasSlot slot 
 unfolding mask
 slot-mask o slot has is = is ∙ ap mask_over (sym (length_run o slot has))
 
--- ---- copying the part of a slot to the front of a buffer: the loop that lays the part's octets from place 0 on
-pub copying-turn : (o : List ℕ) (slot n : ℕ) {start out : List ℕ} {j : ℕ} → Laying start (part o slot n) 0 out j → HasSlot slot o
-    → n ≤ packet_limit
-    → n ≤ length start → j < n → Laying start (part o slot n) 0 (set out j (get_or o (slot * packet_limit + j) 0)) (j + 1)
-copying-turn o slot n {start} {out} {j} l has fits room more =
-    rw (part_at o slot n j more, zero-add j) at
-    (laying-turn l (rw (length_part o slot n has fits) (omega arith)) (rw (length_part o slot n has fits) more))
-
-pub copying-done : (o : List ℕ) (slot n : ℕ) {start out : List ℕ} {j : ℕ} → Laying start (part o slot n) 0 out j → HasSlot slot o
-    → n ≤ packet_limit
-    → n ≤ j → out ≡ part o slot n ++ drop n start
-copying-done o slot n {start} {out} {j} l has fits done =
-    let long = length_part o slot n has fits in
-    let all : j ≡ length (part o slot n) = omega (arith, l.few) in
-    let whole : j ≡ n = omega arith in
-    l.laid
-    ∙ ap (λ (k : ℕ). paste start 0 (part o slot n) k) all
-    ∙ ap₂ (λ (a : List ℕ) (k : ℕ). a ++ drop k start) (take-length (part o slot n)) (zero-add (length (part o slot n)) ∙ long)
+-- ---- copying the part of a slot to the front of a buffer
+pub part-copied : (o : List ℕ) (slot n : ℕ) (out : List ℕ) {new : List ℕ}
+    → new ≡ mid_of (slot * packet_limit) (slot * packet_limit + n - slot * packet_limit) o → new ++ drop n out ≡ part o slot n ++ drop n out
+unfolding part
+part-copied o slot n out told =
+    let e : slot * packet_limit + n - slot * packet_limit ≡ n = omega arith in
+    ap (λ (l : List ℕ). l ++ drop n out) (told ∙ ap (λ (k : ℕ). mid_of (slot * packet_limit) k o) e)
 
 -- ---- adding a slot: as many of its octets as the sum has
 pub slot_added : (o : List ℕ) (slot : ℕ) (sum : List ℕ) {new : List ℕ}

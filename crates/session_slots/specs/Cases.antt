@@ -1,5 +1,5 @@
 -- A store in octets: its slots, what is put into one, and which octets past a length are zero (rule 13.5). Definitions only.
-use Rattle.std.specs.Prelude.{◌≡◌, true, false, List, [], ◌∷◌, ◌++◌, replicate}
+use Rattle.std.specs.Prelude.{◌≡◌, true, false, [], ◌∷◌, ◌++◌, replicate}
 use Rattle.session_slots.specs.Store.{part, pasted, zeros_from, zeros_past, mask_over, added}
 
 pub record StoreCases : Type 0 where

@@ -19,10 +19,9 @@ pub fn put(octets: &mut [u8], slot: usize, src: &[u8])
     ensures { octets.new ≡ pasted octets.old slot src.now }
 {
     let at = slot * Packet::LIMIT;
-    let mut j = 0;
-    while j < src.len() {
+    // A loop, since the archive for C calls memcpy and memset alone, and the library's copy is a memmove.
+    for j in 0..src.len() {
         octets[at + j] = src[j];
-        j += 1;
     }
 }
 
@@ -30,11 +29,7 @@ pub fn put(octets: &mut [u8], slot: usize, src: &[u8])
 pub fn clear_run(run: &mut [u8])
     ensures { run.new ≡ zeros (length run.old) }
 {
-    let mut j = 0;
-    while j < run.len() {
-        run[j] = 0;
-        j += 1;
-    }
+    run.fill(0);
 }
 
 // Writes zeros to all of a slot.
@@ -43,8 +38,7 @@ pub fn clear(octets: &mut [u8], slot: usize)
     ensures { octets.new ≡ pasted octets.old slot (zeros packet_limit) }
 {
     let at = slot * Packet::LIMIT;
-    let end = at + Packet::LIMIT;
-    clear_run(&mut octets[at..end]);
+    clear_run(&mut octets[at..at + Packet::LIMIT]);
 }
 
 // The mask of a slot: its first half lets every octet pass, its second half only zero. An octet passes if it has no bit in common with the
@@ -66,10 +60,8 @@ pub fn zeros_in_run(run: &[u8], n: usize, table: &[u8]) -> bool
 {
     let from = run.len() - n;
     let mut ok = true;
-    let mut j = 0;
-    while j < run.len() {
-        ok = ok & ((run[j] & table[from + j]) == 0);
-        j += 1;
+    for (j, octet) in run.iter().enumerate() {
+        ok &= *octet & table[from + j] == 0;
     }
     ok
 }
@@ -82,19 +74,17 @@ pub fn zeros_past(octets: &[u8], slot: usize, n: usize, table: &[u8]) -> bool
     ensures { result ≡ zeros_past octets.now slot n }
 {
     let at = slot * Packet::LIMIT;
-    let end = at + Packet::LIMIT;
-    zeros_in_run(&octets[at..end], n, table)
+    zeros_in_run(&octets[at..at + Packet::LIMIT], n, table)
 }
 
 // Whether a run of octets has only zeros: where no octet may be set, no mask is needed.
+// No branches here either: `all` would test octet by octet and stop at the first that is set.
 fn zero_run(run: &[u8]) -> bool
     ensures { result ≡ zeros_from run.now 0 }
 {
     let mut ok = true;
-    let mut j = 0;
-    while j < run.len() {
-        ok = ok & (run[j] == 0);
-        j += 1;
+    for octet in run {
+        ok &= *octet == 0;
     }
     ok
 }
@@ -105,8 +95,7 @@ pub fn all_zero(octets: &[u8], slot: usize) -> bool
     ensures { result ≡ zeros_past octets.now slot 0 }
 {
     let at = slot * Packet::LIMIT;
-    let end = at + Packet::LIMIT;
-    zero_run(&octets[at..end])
+    zero_run(&octets[at..at + Packet::LIMIT])
 }
 
 // Copies the first n octets of a slot to the front of the caller's buffer.
@@ -117,10 +106,8 @@ pub fn copy_out(octets: &[u8], slot: usize, n: usize, out: &mut [u8])
     ensures { out.new ≡ part octets.now slot n ++ drop n out.old }
 {
     let at = slot * Packet::LIMIT;
-    let mut j = 0;
-    while j < n {
+    for j in 0..n {
         out[j] = octets[at + j];
-        j += 1;
     }
 }
 
@@ -131,6 +118,5 @@ pub fn add(octets: &[u8], slot: usize, sum: &mut [u8])
     ensures { sum.new ≡ added sum.old octets.now slot }
 {
     let at = slot * Packet::LIMIT;
-    let end = at + sum.len();
-    octets::add(&octets[at..end], sum);
+    octets::add(&octets[at..at + sum.len()], sum);
 }

@@ -78,5 +78,7 @@ pub seeking-found : {rows : List Row} {from c i : ℕ} {there : Bool} → Seekin
     → HasTold (row_at rows i).mask c there → there ≡ true → PivotFound rows from c i
 seeking-found s told has = seeking-ends s (λ inside. sym told.answer ∙ has)
 
-pub seeking-none : {rows : List Row} {from c i : ℕ} → Seeking rows from c i → table_rows ≤ i → PivotFound rows from c i
-seeking-none s all = seeking-ends s (λ inside. absurd (omega arith))
+pub seeking-none : {rows : List Row} {from c i : ℕ} → Seeking rows from c i → table_rows ≤ i → PivotFound rows from c table_rows
+seeking-none {rows} {from} {c} {i} s all =
+    let last : i ≡ table_rows = omega (arith, s.most) in
+    rw last at (seeking-ends s (λ inside. absurd (omega arith)))

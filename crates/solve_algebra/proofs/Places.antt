@@ -1,46 +1,51 @@
 -- The first place of a mask and the one that stands alone, as the code finds them, on plain values. Assumes nothing.
-use Prim.Native.Nat.{ℕ, ◌+◌, ◌^◌, ◌≤◌, ◌<◌}
-use mathlib.Core.Path.{◌≡◌, sym, ap, ap₂, ◌∙◌}
+use Prim.Native.Nat.{ℕ, ◌^◌, ◌≤◌, ◌<◌}
+use mathlib.Core.Path.{◌≡◌, refl, sym, ap, ap₂, ◌∙◌}
 use mathlib.Core.Logic.{⊎_elim}
-use mathlib.Core.Bool.{Bool, true, false, xor, false≢true}
+use mathlib.Core.Bool.{true, false, xor, false≢true}
 use lib.Bits.{bit_xor}
 use lib.Dec.{eqb}
+use Rattle.std.specs.Int.{w64, bit_at, trailing_zeros}
+use Rattle.std.specs.Int.Count.{trailing_of_zero}
+use Rattle.std.proofs.lemmas.Nat.Bits.{bit_at-trailing_zeros}
 use borrow.Author.Tests.{eq-eqb, ne_eqb}
 use native.Mathlib.Omega.{arith}
 use Rattle.octets.proofs.Laws.{same_or_not, true-or-false}
 use Rattle.solve_algebra.specs.Systems.{Alone, alone_test}
-use Rattle.solve_algebra.proofs.LinearLaws.{xor-false, first_passes, first-before, first-is, alone-says, alone_of, alone-only}
+use Rattle.solve_algebra.proofs.LinearLaws.{xor-false, first_passes, first-before, first-most, first-is, alone-says, alone_of, alone-only}
 use Rattle.solve_algebra.specs.Masks.{mask_places, has_place, first_place, lone_place}
-use Rattle.solve_algebra.specs.MasksPromise.{HasTold, OneMade, FirstFound, LoneFound}
-use Rattle.solve_algebra.proofs.Bits.{bit-xor}
+use Rattle.solve_algebra.specs.MasksPromise.{OneMade, FirstFound, LoneFound}
+use Rattle.solve_algebra.proofs.Bits.{bit-xor, no-bit}
 use Rattle.solve_algebra.proofs.Powers.{bit-power}
 
--- ---- the search for the first place: none before p is there
-pub record Looking (mask p : ℕ) : Type 0 where
-  pub most : p ≤ mask_places
-  pub before : (q : ℕ) → q < p → has_place mask q ≡ false
+-- ---- the first place is how many zeros are below the lowest bit
+absent : (mask k : ℕ) → bit_at mask k ≡ 0 → has_place mask k ≡ false
+unfolding has_place
+absent mask k f = rw f refl
 
-pub looking-start : (mask : ℕ) → Looking mask 0
-looking-start mask = record { most = omega arith; before = λ q below. absurd (omega arith) }
+present : (mask k : ℕ) → bit_at mask k ≡ 1 → has_place mask k ≡ true
+unfolding has_place
+present mask k f = rw f refl
 
-pub looking-turn : {mask p : ℕ} {there : Bool} → Looking mask p → p < mask_places → HasTold mask p there → there ≡ false
-    → Looking mask (p + 1)
-looking-turn {mask} {p} l more told none =
+pub trailing-first : {mask r : ℕ} → mask < 2 ^ 64 → r ≡ trailing_zeros w64 mask → FirstFound mask r
+unfolding first_place
+trailing-first {mask} {r} small e =
+    ⊎_elim
+    (λ zero.
+    let none : r ≡ mask_places = e ∙ ap (trailing_zeros w64) zero ∙ trailing_of_zero 64 in
     record {
-      most = omega arith;
-      before = λ q below.
-          ⊎_elim (λ same. ap (has_place mask) same ∙ sym told.answer ∙ none) (λ other. l.before q (omega arith)) (same_or_not q p);
-    }
-
-pub looking-found : {mask p : ℕ} {there : Bool} → Looking mask p → HasTold mask p there → there ≡ true → FirstFound mask p
-unfolding first_place
-looking-found {mask} {p} l told has =
-    record { answer = first-is mask_places (has_place mask) p l.most l.before (λ inside. sym told.answer ∙ has) }
-
-pub looking-none : {mask p : ℕ} → Looking mask p → mask_places ≤ p → FirstFound mask p
-unfolding first_place
-looking-none {mask} {p} l all =
-    record { answer = first-is mask_places (has_place mask) p l.most l.before (λ inside. absurd (omega arith)) }
+      answer = rw none (first-is mask_places (has_place mask) mask_places (omega arith) (λ k early. rw zero (no-bit k)) (λ inside. absurd (omega arith)));
+    })
+    (λ some.
+    let t = bit_at-trailing_zeros w64 mask (omega arith) small in
+    record {
+      answer =
+          e
+          ∙ first-is mask_places (has_place mask) (trailing_zeros w64 mask) (omega (arith, t.0))
+          (λ k early. absent mask k (t.2 k early))
+          (λ inside. present mask (trailing_zeros w64 mask) t.1);
+    })
+    (same_or_not mask 0)
 
 -- ---- the place that stands alone
 -- where a mask has p alone, that is the answer; where it has none alone, there is none
@@ -71,12 +76,14 @@ lone-exact mask p inside e =
     alone-says mask_places (has_place mask) p (rw e at (first_passes mask_places (alone_test mask_places (has_place mask)) (rw e inside)))
 
 -- an empty mask has none
-pub lone-none : {mask place : ℕ} → FirstFound mask place → mask_places ≤ place → LoneFound mask mask_places
+pub lone-none : {mask place : ℕ} → FirstFound mask place → mask_places ≤ place → LoneFound mask place
 unfolding first_place
 lone-none {mask} {place} f past =
+    let last : place ≡ mask_places = omega (arith, f.answer, first-most mask_places (has_place mask)) in
     record {
       answer =
-          none-alone mask
+          last
+          ∙ none-alone mask
           (λ p inside alone. false≢true (sym (first-before mask_places (has_place mask) p (omega (arith, f.answer))) ∙ alone.has));
     }
 

@@ -10,6 +10,8 @@ use lib.Bits.{bit_xor}
 use lib.Dec.{eqb, ltb}
 use borrow.Author.Tests.{lt-ltb, le-ltb}
 use native.Mathlib.Omega.{arith}
+use Rattle.std.specs.List.{swap}
+use Rattle.std.proofs.lemmas.List.Edits.{swap_is}
 use Rattle.octets.specs.Place.{tab}
 use Rattle.octets.proofs.Laws.{tab-at, length-tab, same_or_not}
 use Rattle.solve_algebra.specs.Masks.{has_place}
@@ -31,9 +33,9 @@ pub combines : (a b : Row)
 unfolding combined_row
 combines a b = record { answer = refl }
 
-pub swaps : (rows : List Row) (a b : ℕ) → RowsSwapped rows a b (set (set rows a (row_at rows b)) b (row_at rows a))
+pub swaps : (rows : List Row) (a b : ℕ) {new : List Row} → a < length rows → b < length rows → new ≡ swap rows a b → RowsSwapped rows a b new
 unfolding swapped_rows
-swaps rows a b = record { answer = refl }
+swaps rows a b inside_a inside_b e = record { answer = e ∙ sym (swap_is rows a b no_row inside_a inside_b) }
 
 -- ---- a row with a column taken out
 pub clear_kept : (row own : Row) (c : ℕ) {keeps : Bool} → keeps ≡ true → RowCleared row own c keeps row

@@ -29,59 +29,63 @@ impl Row {
     {
         Row::COUNT
     }
-}
 
-// Equation e as a row: its columns, and e alone in the sum.
-pub fn start(mask: u64, e: u64) -> Row
-    requires { e < table_rows }
-    ensures { RowStarted mask e result }
-{
-    if e < Mask::PLACES {
-        let low = masks::one(e);
-        return Row { mask, low, high: 0 };
+    // Equation e as a row: its columns, and e alone in the sum.
+    pub fn start(mask: u64, e: u64) -> Row
+        requires { e < table_rows }
+        ensures { RowStarted mask e result }
+    {
+        if e < Mask::PLACES {
+            Row {
+                mask,
+                low: masks::one(e),
+                high: 0,
+            }
+        } else {
+            Row {
+                mask,
+                low: 0,
+                high: masks::one(e - Mask::PLACES),
+            }
+        }
     }
-    let past = e - Mask::PLACES;
-    let high = masks::one(past);
-    Row { mask, low: 0, high }
-}
 
-// Whether equation e is in a row's sum.
-pub fn has_source(row: Row, e: u64) -> bool
-    requires { e < table_rows }
-    ensures { SourceTold row e result }
-{
-    if e < Mask::PLACES {
-        return masks::has(row.low, e);
+    // Whether equation e is in the row's sum.
+    pub fn has_source(self, e: u64) -> bool
+        requires { e < table_rows }
+        ensures { SourceTold self e result }
+    {
+        if e < Mask::PLACES {
+            masks::has(self.low, e)
+        } else {
+            masks::has(self.high, e - Mask::PLACES)
+        }
     }
-    let past = e - Mask::PLACES;
-    masks::has(row.high, past)
-}
 
-// The exclusive or of two rows.
-fn combined(a: Row, b: Row) -> Row
-    ensures { RowsCombined a b result }
-{
-    let mask = a.mask ^ b.mask;
-    let low = a.low ^ b.low;
-    let high = a.high ^ b.high;
-    Row { mask, low, high }
+    // The exclusive or of two rows.
+    fn combined(self, other: Row) -> Row
+        ensures { RowsCombined self other result }
+    {
+        Row {
+            mask: self.mask ^ other.mask,
+            low: self.low ^ other.low,
+            high: self.high ^ other.high,
+        }
+    }
 }
 
 // The first row from `from` on that has the column; 128 if none has it.
-fn pivot(rows: [Row; Row::COUNT], from: usize, column: u64) -> usize
+fn pivot(rows: &[Row; Row::COUNT], from: usize, column: u64) -> usize
     requires column_lt_columns { column < columns }
     requires from_le_table_rows { from ≤ table_rows }
-    ensures { PivotFound rows from column result }
+    ensures { PivotFound rows.now from column result }
 {
-    let mut i = from;
-    while i < Row::COUNT {
-        let row = rows[i];
-        if masks::has(row.mask, column) {
+    for i in from..Row::COUNT {
+        if masks::has(rows[i].mask, column) {
             return i;
         }
-        i += 1;
     }
-    i
+    Row::COUNT
 }
 
 // Two rows swapped.
@@ -91,10 +95,7 @@ fn swapped(rows: [Row; Row::COUNT], a: usize, b: usize) -> [Row; Row::COUNT]
     ensures { RowsSwapped rows a b result }
 {
     let mut next = rows;
-    let first = rows[a];
-    let second = rows[b];
-    next[a] = second;
-    next[b] = first;
+    next.swap(a, b);
     next
 }
 
@@ -103,14 +104,11 @@ fn cleared_row(row: Row, own: Row, column: u64, keeps: bool) -> Row
     requires { column < columns }
     ensures { RowCleared row own column keeps result }
 {
-    if keeps {
-        return row;
+    if !keeps && masks::has(row.mask, column) {
+        row.combined(own)
+    } else {
+        row
     }
-    let there = masks::has(row.mask, column);
-    if there {
-        return combined(row, own);
-    }
-    row
 }
 
 // The table with the column removed from every row but the one at `at`, by combining with that row.
@@ -121,13 +119,8 @@ fn cleared(rows: [Row; Row::COUNT], at: usize, column: u64) -> [Row; Row::COUNT]
 {
     let own = rows[at];
     let mut next = rows;
-    let mut i = 0;
-    while i < Row::COUNT {
-        let row = rows[i];
-        let keeps = i == at;
-        let clear = cleared_row(row, own, column, keeps);
-        next[i] = clear;
-        i += 1;
+    for (i, row) in rows.iter().enumerate() {
+        next[i] = cleared_row(*row, own, column, i == at);
     }
     next
 }
@@ -138,15 +131,10 @@ pub fn reduced(rows: [Row; Row::COUNT]) -> [Row; Row::COUNT]
 {
     let mut table = rows;
     let mut rank = 0;
-    let mut next: u64 = 0;
-    while next < Mask::PLACES {
-        let column = next;
-        next += 1;
-        let at = pivot(table, rank, column);
+    for column in 0..Mask::PLACES {
+        let at = pivot(&table, rank, column);
         if at < Row::COUNT {
-            let turned = swapped(table, at, rank);
-            let clear = cleared(turned, rank, column);
-            table = clear;
+            table = cleared(swapped(table, at, rank), rank, column);
             rank += 1;
         }
     }

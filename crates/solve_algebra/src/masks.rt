@@ -1,5 +1,6 @@
 // Masks: sets of places below 64, one bit for each place in a number of 64 bits. The rows of the table use them (rule 1.16). These
 // functions are for callers inside this repository: they require that a place is below 64.
+// A mask stays a number, and no struct around one: rows are added by `^`, and the definitions in `specs/` take its bits by division.
 ghost use Rattle.std.specs.Prelude.{◌≡◌, ◌+◌, ◌*◌, ◌≤◌, ◌<◌};
 ghost use Rattle.solve_algebra.specs.Masks.{mask_places};
 ghost use Rattle.solve_algebra.specs.MasksPromise.{HasTold, OneMade, FirstFound, LoneFound, BackMade};
@@ -23,9 +24,7 @@ pub fn has(mask: u64, place: u64) -> bool
     requires { place < mask_places }
     ensures { HasTold mask place result }
 {
-    let moved = mask >> place;
-    let last = moved & 1;
-    last == 1
+    mask >> place & 1 == 1
 }
 
 // The mask of one place.
@@ -40,14 +39,7 @@ pub fn one(place: u64) -> u64
 pub fn first_place(mask: u64) -> u64
     ensures { FirstFound mask result }
 {
-    let mut p: u64 = 0;
-    while p < Mask::PLACES {
-        if has(mask, p) {
-            return p;
-        }
-        p += 1;
-    }
-    p
+    u64::from(mask.trailing_zeros())
 }
 
 // The only place that a mask has; 64 if it has none or several.
@@ -55,16 +47,10 @@ pub fn lone_place(mask: u64) -> u64
     ensures { LoneFound mask result }
 {
     let place = first_place(mask);
-    if place < Mask::PLACES {
-        let single = one(place);
-        let rest = mask ^ single;
-        let other = first_place(rest);
-        if other < Mask::PLACES {
-            return Mask::PLACES;
-        }
-        return place;
+    if place < Mask::PLACES && first_place(mask ^ one(place)) < Mask::PLACES {
+        return Mask::PLACES;
     }
-    Mask::PLACES
+    place
 }
 
 // The mask of the n places at - m, at - 2m, and so on: the members of a message (rule 4.12).
@@ -73,16 +59,11 @@ pub fn places_back(at: u64, n: u64, m: u64) -> u64
     requires at_bound { at < mask_places + m }
     ensures { BackMade at n m result }
 {
-    let mut mask: u64 = 0;
+    let mut mask = 0;
     let mut place = at;
-    let mut t: u64 = 0;
-    while t < n {
-        let next = place - m;
-        let single = one(next);
-        let more = mask ^ single;
-        mask = more;
-        place = next;
-        t += 1;
+    for _ in 0..n {
+        place -= m;
+        mask ^= one(place);
     }
     mask
 }

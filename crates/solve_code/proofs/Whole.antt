@@ -1,5 +1,5 @@
 -- The whole call, on plain values: the table, what the equations ask for and the fills are those of the function. Assumes nothing.
-use Rattle.std.proofs.Common.{◌≡◌, ℕ, zero, suc, ◌+◌, ◌<◌, ◌≤◌, Bool, true, false, cond, not, ◌||◌, eqb, List, length, sym, refl, ap, ◌∙◌, ap₂, arith}
+use Rattle.std.proofs.Common.{◌≡◌, ℕ, zero, suc, ◌+◌, ◌<◌, ◌≤◌, Bool, true, false, cond, not, ◌||◌, eqb, List, length, sym, refl, ap, ◌∙◌, ap₂, arith, Ok, Err}
 use Rattle.octets.specs.Place.{all_below}
 use Rattle.octets.proofs.Laws.{tab-ext, all_below-ext}
 use Rattle.length.specs.Refusals.{refusal, no_solution}
@@ -29,7 +29,6 @@ use Rattle.solve.proofs.SolutionsLaws.{after_none, after_turn}
 use Rattle.solve_code.specs.Steps.{SidesLaid, laid_at, sum_at, row_sum, fits, RowsTold, filled_row, filled_rows, RowsFill}
 use Rattle.solve_code.specs.Outcome.{filled_of}
 use Rattle.solve_code.specs.Promise.{Solving}
-use Rattle.solve_code.specs.declared.Solved.TheVariants as solved
 
 module _ {l : Lent} (w : InRanges l) {rows reduced : List Row} {all : List ℕ} (laid : TableLaid l.base l.table rows)
     (small : Eliminates rows reduced) (sides : SidesLaid l.base l.table l.octets l.messages all) where
@@ -100,7 +99,7 @@ module _ {l : Lent} (w : InRanges l) {rows reduced : List Row} {all : List ℕ} 
 
   pub solved-filled : {ok : Bool} {new_t new_o : List ℕ} → RowsTold all reduced ok → ok ≡ true
       → RowsFill l.base all reduced l.table l.octets new_t new_o
-      → Solving l (lent l.base l.counts new_t new_o l.messages) solved.Filled
+      → Solving l (lent l.base l.counts new_t new_o l.messages) (Ok tt)
   unfolding view_in
   solved-filled {ok} {new_t} {new_o} told right fill =
       let is = solve-done (all-fit told ∙ right) in
@@ -120,7 +119,7 @@ module _ {l : Lent} (w : InRanges l) {rows reduced : List Row} {all : List ℕ} 
       }
 
   pub solved-refused : {ok : Bool} {why : Refusal} → RowsTold all reduced ok → ok ≡ false → RefusalMade no_solution why
-      → Solving l l (solved.Refused why)
+      → Solving l l (Err why)
   solved-refused {ok} {why} told none made =
       let is = solve-refused (all-fit told ∙ none) in
       record {

@@ -17,10 +17,7 @@ fn one_unless(known: bool, place: u64) -> u64
     requires { place < masks.mask_places }
     ensures { OneUnless known place result }
 {
-    if known {
-        return 0;
-    }
-    solve_algebra::one(place)
+    if known { 0 } else { solve_algebra::one(place) }
 }
 
 // Which places of the view are unknown.
@@ -29,18 +26,11 @@ fn unknown_places(base: u16, table: &[u16]) -> u64
     ensures { UnknownMade base table.now result }
 {
     let mut mask: u64 = 0;
-    let mut p = 0;
-    while p < Session::KEPT {
-        let ahead = p + Session::BEFORE;
-        let near = ahead as u16;
-        let number = std::num::wrapping_add_u16(base, near);
-        let slot = session_held::kept_slot(number);
+    for p in 0..Session::KEPT {
+        let near = (p + Session::BEFORE) as u16;
+        let slot = session_held::kept_slot(base.wrapping_add(near));
         let known = session_held::is_known(table, slot);
-        let place = p as u64;
-        let single = one_unless(known, place);
-        let more = mask ^ single;
-        mask = more;
-        p += 1;
+        mask ^= one_unless(known, p as u64);
     }
     mask
 }
@@ -53,21 +43,15 @@ fn equation_mask(base: u16, table: &[u16], unknown: u64, e: usize) -> u64
 {
     let distance = e / Parity::MESSAGES;
     let index = e % Parity::MESSAGES;
-    let near = distance as u16;
-    let at = std::num::wrapping_add_u16(base, near);
-    let slot = session_held::heard_slot(at);
+    let slot = session_held::heard_slot(base.wrapping_add(distance as u16));
     let count = session_held::m_at(table, slot);
     if index < count {
         let covered = session_held::n_at(table, slot);
-        let behind = distance + Session::BEFORE;
-        let after = behind + index;
-        let from = after as u64;
-        let n = covered as u64;
-        let m = count as u64;
-        let members = solve_algebra::places_back(from, n, m);
-        return members & unknown;
+        let from = distance + Session::BEFORE + index;
+        solve_algebra::places_back(from as u64, covered as u64, count as u64) & unknown
+    } else {
+        0
     }
-    0
 }
 
 // The table of all equations.
@@ -82,13 +66,9 @@ pub fn table(base: u16, table: &[u16]) -> [Row; Row::COUNT]
         high: 0,
     };
     let mut rows = [nothing; Row::COUNT];
-    let mut e = 0;
-    while e < Row::COUNT {
+    for e in 0..Row::COUNT {
         let mask = equation_mask(base, table, unknown, e);
-        let number = e as u64;
-        let row = solve_algebra::start(mask, number);
-        rows[e] = row;
-        e += 1;
+        rows[e] = Row::start(mask, e as u64);
     }
     rows
 }

@@ -14,29 +14,20 @@ ghost use Rattle.solve_code.specs.Steps.{RowTold, RowsTold, MayFill, RowFills, R
 ghost use Rattle.solve_code.specs.Promise.{Solving};
 
 use datagram::{Packet, Part};
-use length::Refusal;
+use length::{Reason, Refusal};
 use session_held::{Counts, Session};
 use sides::{row_sum, sides};
 use solve_algebra::{Mask, Row};
-
-// What the call returns: filled, or why it is refused.
-#[derive(Drop)]
-pub enum Solved {
-    Filled,
-    Refused(Refusal),
-}
 
 // Whether a row has columns, or asks for nothing.
 fn row_fits(all: &[u8], row: Row) -> bool
     requires { length all.now ≡ message_octets }
     ensures { RowTold all.now row result }
 {
-    let first = solve_algebra::first_place(row.mask);
-    if first < Mask::PLACES {
+    if solve_algebra::first_place(row.mask) < Mask::PLACES {
         return true;
     }
-    let sum = row_sum(all, row);
-    session_slots::all_zero(&sum, 0)
+    session_slots::all_zero(&row_sum(all, row), 0)
 }
 
 // Whether some octets satisfy all equations: no row without columns asks for something (rule 14.6).
@@ -45,12 +36,8 @@ fn all_fit(all: &[u8], rows: [Row; Row::COUNT]) -> bool
     ensures { RowsTold all.now rows result }
 {
     let mut ok = true;
-    let mut i = 0;
-    while i < Row::COUNT {
-        let row = rows[i];
-        let fits = row_fits(all, row);
-        ok = ok & fits;
-        i += 1;
+    for row in &rows {
+        ok &= row_fits(all, *row);
     }
     ok
 }
@@ -65,10 +52,8 @@ fn fill_row(base: u16, table: &mut [u16], octets: &mut [u8], all: &[u8], row: Ro
     let place = solve_algebra::lone_place(row.mask);
     if place < Mask::PLACES {
         let sum = row_sum(all, row);
-        let before = Session::BEFORE as u16;
-        let first = std::num::wrapping_sub_u16(base, before);
-        let near = place as u16;
-        let number = std::num::wrapping_add_u16(first, near);
+        let first = base.wrapping_sub(Session::BEFORE as u16);
+        let number = first.wrapping_add(place as u16);
         let part = Part {
             start: 0,
             size: Packet::LIMIT,
@@ -84,11 +69,8 @@ fn fill_rows(base: u16, table: &mut [u16], octets: &mut [u8], all: &[u8], rows: 
     ensures { RowsFill base all.now rows table.old octets.old table.new
         octets.new }
 {
-    let mut i = 0;
-    while i < Row::COUNT {
-        let row = rows[i];
-        fill_row(base, table, octets, all, row);
-        i += 1;
+    for row in &rows {
+        fill_row(base, table, octets, all, *row);
     }
 }
 
@@ -100,7 +82,7 @@ pub fn solve_core(
     table: &mut [u16; Session::PLACES],
     octets: &mut [u8; Session::PACKET_OCTETS],
     messages: &[u8; Session::MESSAGE_OCTETS],
-) -> Solved
+) -> Result<(), Refusal>
     requires { InRanges (lent base counts table.old octets.old messages.now) }
     ensures { Solving (lent base counts table.old octets.old messages.now)
         (lent base counts table.new octets.new messages.now) result }
@@ -109,11 +91,9 @@ pub fn solve_core(
     let reduced = solve_algebra::reduced(rows);
     let mut all = [0u8; Session::MESSAGE_OCTETS];
     sides(base, table, octets, messages, &mut all);
-    let ok = all_fit(&all, reduced);
-    if ok {
-        fill_rows(base, table, octets, &all, reduced);
-        return Solved::Filled;
+    if !all_fit(&all, reduced) {
+        return Err(Refusal::new(Reason::NoSolution));
     }
-    let why = Refusal::new(Refusal::NO_SOLUTION);
-    Solved::Refused(why)
+    fill_rows(base, table, octets, &all, reduced);
+    Ok(())
 }

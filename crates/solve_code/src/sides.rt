@@ -18,13 +18,12 @@ fn side(base: u16, table: &[u16], octets: &[u8], messages: &[u8], e: usize) -> [
     let distance = e / Parity::MESSAGES;
     let index = e % Parity::MESSAGES;
     let near = distance as u16;
-    let at = std::num::wrapping_add_u16(base, near);
-    let slot = session_held::heard_slot(at);
-    let count = session_held::m_at(table, slot);
-    if index < count {
-        return session_repair::asked(base, table, octets, messages, near, index, Packet::LIMIT);
+    let slot = session_held::heard_slot(base.wrapping_add(near));
+    if index < session_held::m_at(table, slot) {
+        session_repair::asked(base, table, octets, messages, near, index, Packet::LIMIT)
+    } else {
+        [0u8; Packet::LIMIT]
     }
-    [0u8; Packet::LIMIT]
 }
 
 // What all equations ask for, in order, 256 octets each.
@@ -38,11 +37,8 @@ pub fn sides(
     requires { MayMend base table.now octets.now messages.now }
     ensures { SidesLaid base table.now octets.now messages.now all.new }
 {
-    let mut e = 0;
-    while e < Row::COUNT {
-        let one = side(base, table, octets, messages, e);
-        session_slots::put(all, e, &one);
-        e += 1;
+    for e in 0..Row::COUNT {
+        session_slots::put(all, e, &side(base, table, octets, messages, e));
     }
 }
 
@@ -52,14 +48,9 @@ pub fn row_sum(all: &[u8], row: Row) -> [u8; Packet::LIMIT]
     ensures { RowSummed all.now row result }
 {
     let mut sum = [0u8; Packet::LIMIT];
-    let mut e = 0;
-    while e < Row::COUNT {
-        let place = e;
-        e += 1;
-        let number = place as u64;
-        let there = solve_algebra::has_source(row, number);
-        if there {
-            session_slots::add(all, place, &mut sum);
+    for e in 0..Row::COUNT {
+        if row.has_source(e as u64) {
+            session_slots::add(all, e, &mut sum);
         }
     }
     sum

@@ -1,6 +1,7 @@
 -- What the promise of the call says: one outcome, when nothing is listed, a trace with itself, two traces exchanged, and the last refusal.
 -- Assumes nothing.
 use Prim.Native.Nat.{ℕ, suc, ◌+◌, ◌*◌, ◌≤◌, ◌<◌}
+use Rattle.std.proofs.Common.{Result, Ok, Err}
 use mathlib.Core.Path.{◌≡◌, refl, sym, ap, ap₂, ◌∙◌}
 use mathlib.Core.Bool.{Bool, true, false, cond}
 use mathlib.Core.List.{List, [], ◌∷◌, ◌++◌}
@@ -17,23 +18,22 @@ use Rattle.trace_compare.specs.Pairing.{TraceLine}
 use Rattle.trace_compare.specs.Entries.{Entry, numbers_of, entries}
 use Rattle.trace_compare.specs.Told.{PlacedAnswer, told, stopped, Where, at, no_place, mapped_placed}
 use Rattle.trace_compare.specs.Traces.{first_trace, second_trace, lines_read, trace_read, comparison}
-use Rattle.trace_compare.specs.Promise.{compared_outcome, fitted_entries, list_after, Compares}
+use Rattle.trace_compare.specs.Promise.{refused_at, compared_outcome, fitted_entries, list_after, Compares}
 use Rattle.trace_compare.specs.Claims.{TracesAlike, ListedIn, Mirrored, OneOutcome}
-use Rattle.trace_compare.specs.declared.Compared.{Compared}
-use Rattle.trace_compare.specs.declared.Compared.TheVariants as compared
+use Rattle.trace_compare.specs.declared.TraceRefusal.{TraceRefusal}
 use Rattle.trace_compare.proofs.Listing.{empty-exactly, itself-none, mirrored}
 use Rattle.trace_compare.proofs.Reading.{either-trace}
 use Rattle.trace_compare.proofs.Refusing.{compared as both, few-compared, Listed, listed-traces}
 
 -- ---- an answer, by its outcome
-answer_of : PlacedAnswer ℕ → Compared
-answer_of (told count) = compared.Entries count
-answer_of (stopped why place) = compared.Refused why place.trace place.line
+answer_of : PlacedAnswer ℕ → Result ℕ TraceRefusal
+answer_of (told count) = Ok count
+answer_of (stopped why place) = refused_at why place.trace place.line
 
-answer_back : (r : Compared) → answer_of (compared_outcome r) ≡ r
+answer_back : (r : Result ℕ TraceRefusal) → answer_of (compared_outcome r) ≡ r
 unfolding answer_of
-answer_back (compared.Entries count) = refl
-answer_back (compared.Refused why trace line) = refl
+answer_back (Ok count) = refl
+answer_back (Err why) = refl
 
 pub one-outcome : OneOutcome
 one-outcome =
@@ -62,7 +62,7 @@ record Answered (first second old new : List ℕ) (count : ℕ) : Type 0 where
   are : comparison first second ≡ told listed
   within : ListedIn old new count listed
 
-answered : {first second old new : List ℕ} {count : ℕ} → Compares first second old new (compared.Entries count)
+answered : {first second old new : List ℕ} {count : ℕ} → Compares first second old new (Ok count)
     → Answered first second old new count
 answered {first} {second} {old} {new} {count} c = by (comparison first second) refl where
   by : (t : PlacedAnswer (List Entry)) → comparison first second ≡ t → Answered first second old new count
@@ -97,7 +97,7 @@ length_none [] e = refl
 length_none (e ∷ es) z = absurd (omega arith)
 
 -- ---- the list is empty exactly if the traces are alike
-alike-of-answer : {first second old new : List ℕ} {r : Compared} → Compares first second old new r → r ≡ compared.Entries 0
+alike-of-answer : {first second old new : List ℕ} {r : Result ℕ TraceRefusal} → Compares first second old new r → r ≡ Ok 0
     → TracesAlike first second
 alike-of-answer {first} {second} {old} {new} c is =
     let a = answered (rw is at c) in
@@ -112,8 +112,8 @@ alike-of-answer {first} {second} {old} {new} c is =
       alike = (empty-exactly t.left t.right).0 (sym t.are ∙ nothing);
     }
 
-answer-of-alike : {first second old new : List ℕ} {r : Compared} → Compares first second old new r → TracesAlike first second
-    → r ≡ compared.Entries 0
+answer-of-alike : {first second old new : List ℕ} {r : Result ℕ TraceRefusal} → Compares first second old new r → TracesAlike first second
+    → r ≡ Ok 0
 unfolding answer_of
 answer-of-alike {first} {second} {old} {r = r} c t =
     let nothing : comparison first second ≡ told [] =
@@ -123,15 +123,15 @@ answer-of-alike {first} {second} {old} {r = r} c t =
     sym (answer_back r)
     ∙ ap answer_of (c.answer ∙ ap (mapped_placed length) (none-fits (comparison first second) old nothing))
 
-pub empty-call : {first second old new : List ℕ} {r : Compared} → Compares first second old new r
-    → (r ≡ compared.Entries 0) ↔ TracesAlike first second
+pub empty-call : {first second old new : List ℕ} {r : Result ℕ TraceRefusal} → Compares first second old new r
+    → (r ≡ Ok 0) ↔ TracesAlike first second
 empty-call c = (alike-of-answer c, answer-of-alike c)
 
 -- ---- a trace with itself
 one_list : {a b : List TraceLine} → ◌≡◌ {A = PlacedAnswer (List TraceLine)} (told a) (told b) → a ≡ b
 one_list e = cc
 
-pub itself-call : {trace old new : List ℕ} {count : ℕ} → Compares trace trace old new (compared.Entries count) → (count ≡ 0) × (new ≡ old)
+pub itself-call : {trace old new : List ℕ} {count : ℕ} → Compares trace trace old new (Ok count) → (count ≡ 0) × (new ≡ old)
 unfolding numbers_of trace_read
 itself-call {trace} {old} {new} c =
     let a = answered c in
@@ -145,8 +145,8 @@ itself-call {trace} {old} {new} c =
 
 -- ---- exchanged
 pub exchange-call : {first second old new other-old other-new : List ℕ} {count other : ℕ}
-    → Compares first second old new (compared.Entries count)
-    → Compares second first other-old other-new (compared.Entries other)
+    → Compares first second old new (Ok count)
+    → Compares second first other-old other-new (Ok other)
     → (listed : List Entry) × (back : List Entry) × ListedIn old new count listed × ListedIn other-old other-new other back
     × Mirrored listed back
 unfolding trace_read
@@ -168,9 +168,9 @@ exchange-call {first} {second} c d =
     )
 
 -- ---- 13 comes last
-pub room : {first second old new : List ℕ} {r : Compared} (listed : List Entry) → Compares first second old new r
+pub room : {first second old new : List ℕ} {r : Result ℕ TraceRefusal} (listed : List Entry) → Compares first second old new r
     → comparison first second ≡ told listed
-    → (r ≡ compared.Refused (refusal no_room) 0 0) ↔ (length old < 2 * length listed)
+    → (r ≡ refused_at (refusal no_room) 0 0) ↔ (length old < 2 * length listed)
 unfolding answer_of
 room {first} {second} {old} {r = r} listed c e = (forth, back) where
   outcome : (b : Bool) → leb (length (numbers_of listed)) (length old) ≡ b → compared_outcome r ≡ mapped_placed length (by_room b listed)
@@ -179,7 +179,7 @@ room {first} {second} {old} {r = r} listed c e = (forth, back) where
       ∙ ap (λ (t : PlacedAnswer (List Entry)). mapped_placed length (fitted_entries t old)) e
       ∙ ap (λ (x : Bool). mapped_placed length (by_room x listed)) is
 
-  forth : r ≡ compared.Refused (refusal no_room) 0 0 → length old < 2 * length listed
+  forth : r ≡ refused_at (refusal no_room) 0 0 → length old < 2 * length listed
   forth is =
       ⊎_elim (λ full. omega (arith, numbers-twice listed))
       (λ enough.
@@ -189,7 +189,7 @@ room {first} {second} {old} {r = r} listed c e = (forth, back) where
       absurd (omega arith))
       (below_or_not (length old) (length (numbers_of listed)))
 
-  back : length old < 2 * length listed → r ≡ compared.Refused (refusal no_room) 0 0
+  back : length old < 2 * length listed → r ≡ refused_at (refusal no_room) 0 0
   back full =
       sym (answer_back r)
       ∙ ap answer_of (outcome false (lt-leb (length (numbers_of listed)) (length old) (omega (arith, numbers-twice listed))))
@@ -201,6 +201,6 @@ stays (told es) old why place e = let z : ◌≡◌ {A = ℕ} 0 1 = cc in absurd
 stays (stopped r p) old why place e = refl
 
 pub unchanged : {first second old new : List ℕ} {why : Refusal} {trace line : ℕ}
-    → Compares first second old new (compared.Refused why trace line) → new ≡ old
+    → Compares first second old new (refused_at why trace line) → new ≡ old
 unchanged {first} {second} {old} {why = why} {trace} {line} c =
     c.lent ∙ stays (fitted_entries (comparison first second) old) old why (record { trace = trace; line = line }) c.answer

@@ -62,8 +62,8 @@ cases =
       answers = answer-cases;
     }
 
--- ---- at the limit of 512 lines (rules 1.15, 22.13 and 22.14), by laws of traces of empty lines: computed, these cases would take half of the
--- crate's time, in every edit
+-- ---- at the limit of 512 lines (rules 1.15, 22.13 and 22.14), by laws of traces of empty lines: computed, these cases would take half of
+-- the crate's time, in every edit
 
 -- as many empty lines as there are line feeds
 empty-lines : (n : ℕ) → lines_from [] (empties n) ≡ replicate n []

@@ -1,13 +1,12 @@
 -- Comparisons of small traces, at a limit or where a rule could be misread. Each case cites the rule that it shows. Definitions only.
-use Rattle.std.specs.Prelude.{ℕ, ◌≡◌, List, [], ◌∷◌, replicate}
-use Rattle.length.specs.Refusals.{refusal, refusal_at}
+use Rattle.std.specs.Prelude.{ℕ, ◌≡◌, List, [], ◌∷◌, replicate, Ok}
+use Rattle.length.specs.Refusals.{refusal, refusal_at, numbered}
 use Rattle.line.specs.Lines.{line_feed}
 use Rattle.line.specs.Text.{characters}
 use Rattle.trace_compare.specs.Entries.{Entry}
 use Rattle.trace_compare.specs.Told.{PlacedAnswer, told, stopped}
 use Rattle.trace_compare.specs.Traces.{comparison}
-use Rattle.trace_compare.specs.Promise.{Compares}
-use Rattle.trace_compare.specs.declared.Compared.TheVariants as compared
+use Rattle.trace_compare.specs.Promise.{refused_at, Compares}
 
 abbrev pub entry : ℕ → ℕ → Entry
 entry number code = record { number = number; code = code }
@@ -27,14 +26,14 @@ empties count = replicate count line_feed
 -- the answer and the caller's whole list, for what the promise allows
 pub record AnswerCases : Type 0 where
   -- an entry is the number, then its code; the rest of the list is unchanged (rules 2.26, 22.2 and 22.16)
-  pub listed : Compares two [] (7 ∷ 7 ∷ 7 ∷ 7 ∷ 7 ∷ []) (0 ∷ 1 ∷ 1 ∷ 1 ∷ 7 ∷ []) (compared.Entries 2)
-  pub fits : Compares two [] (7 ∷ 7 ∷ 7 ∷ 7 ∷ []) (0 ∷ 1 ∷ 1 ∷ 1 ∷ []) (compared.Entries 2)
-  pub alike : Compares two two (7 ∷ []) (7 ∷ []) (compared.Entries 0)
+  pub listed : Compares two [] (7 ∷ 7 ∷ 7 ∷ 7 ∷ 7 ∷ []) (0 ∷ 1 ∷ 1 ∷ 1 ∷ 7 ∷ []) (Ok 2)
+  pub fits : Compares two [] (7 ∷ 7 ∷ 7 ∷ 7 ∷ []) (0 ∷ 1 ∷ 1 ∷ 1 ∷ []) (Ok 2)
+  pub alike : Compares two two (7 ∷ []) (7 ∷ []) (Ok 0)
   -- 13 if the entries do not fit, and then the list is unchanged (rule 22.16)
-  pub full : Compares two [] (7 ∷ 7 ∷ 7 ∷ []) (7 ∷ 7 ∷ 7 ∷ []) (compared.Refused (refusal 13) 0 0)
+  pub full : Compares two [] (7 ∷ 7 ∷ 7 ∷ []) (7 ∷ 7 ∷ 7 ∷ []) (refused_at (refusal (numbered 13)) 0 0)
   -- a reading refusal names trace and line, and comes before 13 (rules 22.15 and 22.16)
-  pub unread : Compares two (characters "\n000001060000\n0002\n") [] [] (compared.Refused (refusal_at 2 1) 2 3)
-  pub unread-first : Compares (characters "0002\n") two [] [] (compared.Refused (refusal_at 2 1) 1 1)
+  pub unread : Compares two (characters "\n000001060000\n0002\n") [] [] (refused_at (refusal_at 2 (numbered 1)) 2 3)
+  pub unread-first : Compares (characters "0002\n") two [] [] (refused_at (refusal_at 2 (numbered 1)) 1 1)
 
 pub record Cases : Type 0 where
   -- digits in the other case, empty lines and a missing last line feed are no differences (rules 22.13, 22.18 and 22.21)
@@ -71,15 +70,15 @@ pub record Cases : Type 0 where
   pub other-n : comparison (characters "00000106800101010106\n") (characters "00000106800102010106\n") ≡ told (entry 0 5 ∷ [])
   -- empty lines count in line numbers, and the refusal of a line gives the place in its datagram (rules 22.13 and 22.15)
   pub line-3 : comparison two (characters "\n000001060000\n0002\n")
-      ≡ stopped (refusal_at 2 1) (record { trace = 2; line = 3 })
+      ≡ stopped (refusal_at 2 (numbered 1)) (record { trace = 2; line = 3 })
   -- the first trace is refused before the second (rule 22.15), here for a line of one digit, 15 at 0 (rule 22.22)
   pub first-first : comparison (characters "000001060000\n0\n") (characters "0002\n")
-      ≡ stopped (refusal 15) (record { trace = 1; line = 2 })
+      ≡ stopped (refusal (numbered 15)) (record { trace = 1; line = 2 })
   pub answers : AnswerCases
 
 -- at the limit of 512 lines
 pub record LimitCases : Type 0 where
   -- 22 comes before the reading refusals of either trace, and empty lines count towards the limit (rules 1.15, 22.13, 22.14 and 26.33)
-  pub too-many-first : comparison (empties 513) (characters "0\n") ≡ stopped (refusal 22) (record { trace = 0; line = 0 })
-  pub too_many : comparison (characters "0\n") (empties 513) ≡ stopped (refusal 22) (record { trace = 0; line = 0 })
+  pub too-many-first : comparison (empties 513) (characters "0\n") ≡ stopped (refusal (numbered 22)) (record { trace = 0; line = 0 })
+  pub too_many : comparison (characters "0\n") (empties 513) ≡ stopped (refusal (numbered 22)) (record { trace = 0; line = 0 })
   pub most : comparison (empties 512) (empties 512) ≡ told []

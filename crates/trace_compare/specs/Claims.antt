@@ -1,5 +1,5 @@
 -- The claims of this crate about comparing two traces (rules 22.1 to 22.18), a field for each. Statements alone.
-use Rattle.std.specs.Prelude.{ℕ, ◌+◌, ◌*◌, ◌≤◌, ◌<◌, ◌≡◌, ◌⊎◌, ◌↔◌, cond, ◌&&◌, length, drop, eqb}
+use Rattle.std.specs.Prelude.{ℕ, ◌+◌, ◌*◌, ◌≤◌, ◌<◌, ◌≡◌, ◌⊎◌, ◌↔◌, cond, ◌&&◌, length, drop, eqb, Result, Ok}
 use mathlib.Core.List.{List, [], ◌∷◌, ◌++◌, map, Memᴰ as Among}
 use Rattle.std.proofs.Math.Option.{some}
 use Rattle.length.specs.Refusals.{refusal, too_many_lines, no_room}
@@ -12,10 +12,9 @@ use Rattle.trace_compare.specs.Pairing.{TraceLine, number_of_line, having, mate,
 use Rattle.trace_compare.specs.Entries.{Entry, only_first, only_second, given, differences, entries_of, numbers_of, entries}
 use Rattle.trace_compare.specs.Told.{told, stopped, no_place}
 use Rattle.trace_compare.specs.Traces.{lines_limit, first_trace, second_trace, datagram_of, datagram_in, trace_read, comparison}
-use Rattle.trace_compare.specs.Promise.{Compares}
+use Rattle.trace_compare.specs.Promise.{refused_at, Compares}
 use Rattle.trace_compare.specs.Cases.{Cases}
-use Rattle.trace_compare.specs.declared.Compared.{Compared}
-use Rattle.trace_compare.specs.declared.Compared.TheVariants as compared
+use Rattle.trace_compare.specs.declared.TraceRefusal.{TraceRefusal}
 
 -- ---- number by number
 
@@ -63,13 +62,13 @@ pub record TracesAlike (first second : List ℕ) : Type 0 where
 pub record EmptyTraces : Type 0 where
   pub entries : (first second : List TraceLine) → (entries first second ≡ []) ↔ AlikeTraces first second
   -- the same of the call
-  pub call : {first second old new : List ℕ} {r : Compared} → Compares first second old new r
-      → (r ≡ compared.Entries 0) ↔ TracesAlike first second
+  pub call : {first second old new : List ℕ} {r : Result ℕ TraceRefusal} → Compares first second old new r
+      → (r ≡ Ok 0) ↔ TracesAlike first second
 
 -- ---- comparing a trace with itself lists nothing (rule 22.17)
 pub record Itself : Type 0 where
   pub entries : (lines : List TraceLine) → entries lines lines ≡ []
-  pub call : {trace old new : List ℕ} {count : ℕ} → Compares trace trace old new (compared.Entries count) → (count ≡ 0) × (new ≡ old)
+  pub call : {trace old new : List ℕ} {count : ℕ} → Compares trace trace old new (Ok count) → (count ≡ 0) × (new ≡ old)
 
 -- ---- exchanging the traces exchanges 1 and 2 and changes nothing else but the order (rules 22.3 and 22.4)
 
@@ -101,8 +100,8 @@ pub record Exchange : Type 0 where
       → about number (entries second first) ≡ map exchanged (about number (entries first second))
   pub entries : (first second : List TraceLine) → Mirrored (entries first second) (entries second first)
   -- the same of the calls, if both lists have room
-  pub call : {first second old new other-old other-new : List ℕ} {count other : ℕ} → Compares first second old new (compared.Entries count)
-      → Compares second first other-old other-new (compared.Entries other)
+  pub call : {first second old new other-old other-new : List ℕ} {count other : ℕ} → Compares first second old new (Ok count)
+      → Compares second first other-old other-new (Ok other)
       → (listed : List Entry) × (mirrored : List Entry) × ListedIn old new count listed × ListedIn other-old other-new other mirrored
       × Mirrored listed mirrored
 
@@ -145,16 +144,16 @@ pub record ComparisonRefuses : Type 0 where
   pub listed : (first second : List ℕ) → Few first second → AllReadable (lines_from [] first) → AllReadable (lines_from [] second)
       → (listed : List Entry) × (comparison first second ≡ told listed)
   -- 13 is given exactly if the entries need more numbers than the caller's list has (rule 22.16)
-  pub room : {first second old new : List ℕ} {r : Compared} (listed : List Entry) → Compares first second old new r
+  pub room : {first second old new : List ℕ} {r : Result ℕ TraceRefusal} (listed : List Entry) → Compares first second old new r
       → comparison first second ≡ told listed
-      → (r ≡ compared.Refused (refusal no_room) 0 0) ↔ (length old < 2 * length listed)
+      → (r ≡ refused_at (refusal no_room) 0 0) ↔ (length old < 2 * length listed)
   -- after any refusal the caller's list is unchanged (rule 22.16)
   pub unchanged : {first second old new : List ℕ} {why : Refusal} {trace line : ℕ}
-      → Compares first second old new (compared.Refused why trace line) → new ≡ old
+      → Compares first second old new (refused_at why trace line) → new ≡ old
 
 -- ---- two outcomes that the promise allows are equal (rule 28.14)
 pub record OneOutcome : Type 0 where
-  pub compare : {first second old new other : List ℕ} {r q : Compared} → Compares first second old new r
+  pub compare : {first second old new other : List ℕ} {r q : Result ℕ TraceRefusal} → Compares first second old new r
       → Compares first second old other q
       → (r ≡ q) × (new ≡ other)
 

@@ -6,6 +6,7 @@ use Rattle.length.specs.Refusals.{too_many_lines}
 use Rattle.length.specs.Answers as answers
 use Rattle.length.specs.Answers.{Answer}
 use Rattle.length.specs.Tables.{when, unless}
+use Rattle.length.specs.declared.Reason.{Reason}
 use Rattle.datagram.specs.Carried.{Carried}
 use Rattle.datagram.specs.Read.{DatagramParts, read_datagram, carried_by}
 use Rattle.line.specs.Hex.{line_octets}
@@ -50,7 +51,7 @@ trace_read trace text = lines_read trace 1 (lines_from [] text)
 -- ---- the comparison
 
 -- 22 if either trace has too many lines, before any reading refusal (rule 22.14)
-abbrev pub too_many_rows : List ℕ → List ℕ → List (Option ℕ)
+abbrev pub too_many_rows : List ℕ → List ℕ → List (Option Reason)
 too_many_rows first second =
     when (ltb lines_limit (length (lines_from [] first))) too_many_lines
     ∷ when (ltb lines_limit (length (lines_from [] second))) too_many_lines

@@ -1,4 +1,4 @@
-// What comparing two traces returns, the limit of a trace, and the codes of an entry (rule 1.15 and rules 22.2 to 22.7).
+// Why a comparison of two traces is refused, the limit of a trace, and the codes of an entry (rule 1.15 and rules 22.2 to 22.7).
 #![tactic(auto)]
 
 ghost use Rattle.std.specs.Prelude.{◌≡◌};
@@ -7,16 +7,14 @@ ghost use Rattle.trace_compare.specs.Traces.{lines_limit};
 
 use length::Refusal;
 
-// What comparing two traces returns: how many entries it wrote to the front of the caller's list, or why it is refused and at which line
-// of which trace. The trace is 1 or 2 and the line counts from 1; both are 0 if the refusal belongs to no line (rule 22.15).
+// Why a comparison is refused, and at which line of which trace. The trace is 1 or 2 and the line counts from 1; both are 0 if the refusal
+// belongs to no line (rule 22.15).
 #[derive(Drop)]
-pub enum Compared {
-    Entries(usize),
-    Refused {
-        why: Refusal,
-        trace: u8,
-        line: usize,
-    },
+#[derive(Clone, Copy)]
+pub struct TraceRefusal {
+    pub why: Refusal,
+    pub trace: u8,
+    pub line: usize,
 }
 
 // A trace.
@@ -26,7 +24,7 @@ pub struct Trace {}
 impl Trace {
     // A trace has at most 512 lines (rule 1.15).
     pub const LINES: usize = 512;
-    // The traces as a refusal names them (rule 22.15).
+    // The traces by the numbers with which a refusal names them (rule 22.15).
     pub const FIRST: u8 = 1;
 
     pub const SECOND: u8 = 2;
@@ -40,7 +38,7 @@ impl Trace {
     }
 }
 
-// An entry is a datagram's number, then a code from 1 to 5 (rules 22.2 to 22.7).
+// An entry is a datagram's number, then a code from 1 to 5, both numbers in the caller's list (rules 22.2 to 22.7).
 #[derive(Drop)]
 pub struct Entry {}
 

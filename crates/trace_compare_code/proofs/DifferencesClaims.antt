@@ -1,14 +1,14 @@
 -- The claims of this crate. Assumes nothing.
 use Prim.Native.Nat.{ℕ, ◌+◌, ◌-◌, ◌≤◌, ◌<◌}
 use mathlib.Core.Path.{◌≡◌, sym, ap, ◌∙◌}
-use mathlib.Core.List.{List, ◌++◌}
+use mathlib.Core.List.{List}
 use mathlib.Core.Logic.{⊎_elim}
-use lib.ListN.{length, get_or, take, drop}
+use lib.ListN.{length, take, drop}
 use lib.Seq.{take-add, take_all}
 use native.Mathlib.Omega.{arith}
 use Rattle.octets.proofs.Laws.{below_or_not}
 use Rattle.trace_compare_code.specs.Numbers.{often, KthPlace}
-use Rattle.trace_compare_code.specs.DifferencesClaims.{OneOutcome, Claims}
+use Rattle.trace_compare_code.specs.DifferencesClaims.{Claims}
 use Rattle.trace_compare_code.proofs.Often.{often-append, next-hit}
 
 -- the more of a list, the more often

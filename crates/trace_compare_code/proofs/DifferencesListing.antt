@@ -1,14 +1,14 @@
 -- Entries behind those that are listed, on plain values. Assumes nothing.
-use Prim.Native.Nat.{ℕ, ◌+◌, ◌≤◌, ◌<◌}
-use mathlib.Core.Path.{◌≡◌, refl, sym, ap, ◌∙◌}
-use mathlib.Core.Bool.{Bool, true, false, cond, not, ◌&&◌, ◌||◌}
-use mathlib.Core.List.{List, [], ◌∷◌, ◌++◌}
+use Prim.Native.Nat.{ℕ, ◌+◌, ◌≤◌}
+use mathlib.Core.Path.{◌≡◌}
+use mathlib.Core.Bool.{Bool, true, false, not, ◌&&◌, ◌||◌}
+use mathlib.Core.List.{List, [], ◌∷◌}
 use lib.ListN.{length, set}
 use native.Mathlib.Omega.{arith}
 use Rattle.line.specs.Promise.{Appends}
 use Rattle.line.proofs.Laws.{appends-none, appends-one, appends-then, appends-long}
 use Rattle.trace_compare.specs.Entries.{packet_differs, spares_differ, parity_differs}
-use Rattle.trace_compare_code.specs.Rows.{entry_room, line_room, row_numbers, rows_told}
+use Rattle.trace_compare_code.specs.Rows.{entry_room, row_numbers, rows_told}
 
 pub entry-put : (number code : ℕ) {old : List ℕ} {at : ℕ} → at + entry_room ≤ length old
     → Appends (number ∷ code ∷ []) old at (set (set old at number) (at + 1) code) (at + 1 + 1)

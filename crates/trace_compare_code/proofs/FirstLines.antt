@@ -1,14 +1,12 @@
 -- What is listed at the lines of the first trace, one after the other. Assumes nothing.
-use Prim.Native.Nat.{ℕ, zero, suc, ◌+◌, ◌*◌, ◌≤◌, ◌<◌}
+use Prim.Native.Nat.{ℕ, suc, ◌+◌, ◌*◌, ◌≤◌, ◌<◌}
 use mathlib.Core.Path.{◌≡◌, refl, sym, ap, ap₂, ◌∙◌}
-use mathlib.Core.Bool.{Bool, true, false}
 use mathlib.Core.List.{List, [], ◌∷◌, ◌++◌, map, append_assoc, append-nil}
 use mathlib.Core.Option.{Option, none, some}
 use lib.ListN.{length, get_or, get_elem?, take, drop, length-append, drop_of_length-le}
 use native.Mathlib.Numerals.{add-one}
 use native.Mathlib.Omega.{arith}
-use Rattle.length.specs.Answers.{Answer, done, is_done}
-use Rattle.datagram.specs.Carried.{Carried}
+use Rattle.length.specs.Answers.{done, is_done}
 use Rattle.line.specs.Promise.{Appends}
 use Rattle.line.proofs.Laws.{appends-none, appends-then, appends-long}
 use Rattle.trace_compare.specs.Pairing.{TraceLine, number_of_line, having, mate}
@@ -17,7 +15,7 @@ use Rattle.trace_compare.specs.Traces.{datagram_in}
 use Rattle.trace_compare.proofs.Laws.{numbers-twice}
 use Rattle.trace_compare_code.specs.Numbers.{often, KthPlace}
 use Rattle.trace_compare_code.specs.Rows.{line_room, difference_numbers}
-use Rattle.trace_compare_code.specs.Lines.{line_from, Stands, KeptTrace}
+use Rattle.trace_compare_code.specs.Lines.{line_from, KeptTrace}
 use Rattle.trace_compare_code.specs.Inner.{HoldsDatagram, PutsFirst}
 use Rattle.trace_compare_code.proofs.Mates.{kth-some, kth-drop, kth-take, numbers-long, numbers-take, number_at, often-having}
 use Rattle.trace_compare_code.proofs.Mates.{mate-none, mate-some}

@@ -1,5 +1,6 @@
 -- What a line holds: the number of its datagram, or why it is refused. Assumes nothing.
-use Prim.Native.Nat.{ℕ, ◌+◌, ◌≤◌, ◌<◌}
+use Rattle.std.proofs.Common.{Result, Ok, Err}
+use Prim.Native.Nat.{ℕ, ◌+◌, ◌≤◌}
 use mathlib.Core.Path.{◌≡◌, refl, sym, ap, ◌∙◌}
 use mathlib.Core.List.{List}
 use lib.ListN.{length, take, set}
@@ -8,33 +9,26 @@ use Rattle.length.specs.Answers as answers
 use Rattle.length.specs.Answers.{Answer, done, refused, mapped, written_outcome}
 use Rattle.length.specs.Promise.{Puts}
 use Rattle.length.specs.declared.Refusal.{Refusal}
-use Rattle.length.specs.declared.Written.{Written}
-use Rattle.length.specs.declared.Written.TheVariants as written
 use Rattle.datagram.specs.Sizes.{datagram_limit}
 use Rattle.datagram.specs.Carried.{Carried}
-use Rattle.datagram.specs.Read.{read_datagram, carried_by}
+use Rattle.datagram.specs.Read.{carried_by}
 use Rattle.datagram.specs.Promise.{DatagramReads}
 use Rattle.datagram.specs.declared.kind.Kind.{Kind}
 use Rattle.datagram.specs.declared.reader.Part.{Part}
-use Rattle.datagram.specs.declared.reader.Reading.TheVariants as reading
 use Rattle.datagram.specs.declared.reader.DatagramRead.{DatagramRead}
 use Rattle.datagram.proofs.Laws.{refused-read, accepted-read}
 use Rattle.line.specs.Hex.{line_octets}
 use Rattle.line_code.proofs.Laws.{line-fits, read-octets, read-refused}
 use Rattle.trace_compare.specs.Traces.{datagram_of, datagram_in}
 use Rattle.trace_compare_code.specs.Lines.{held_outcome, number_told, KeepsLine}
-use Rattle.trace_compare_code.specs.declared.reading.Held.{Held}
-use Rattle.trace_compare_code.specs.declared.reading.Held.TheVariants as held
-use Rattle.trace_compare_code.specs.declared.reading.Kept.TheVariants as kept
 
 -- ---- octets
-module _ {s : List ℕ} {r : DatagramRead} (reads : DatagramReads s r) where
-  pub octets-number : {number : ℕ} {packet : Part} {k : Kind} {count : ℕ} → r.reading ≡ reading.Datagram number packet k count
-      → held_outcome (held.Number number) ≡ number_told (datagram_of s)
+module _ {s : List ℕ} {r : Result DatagramRead Refusal} (reads : DatagramReads s r) where
+  pub octets-number : {d : DatagramRead} → r ≡ Ok d → held_outcome (Ok d.number) ≡ number_told (datagram_of s)
   unfolding datagram_of carried_by
   octets-number is = sym (ap (λ a. number_told (mapped (carried_by s) a)) (accepted-read reads is))
 
-  pub octets-refused : {why : Refusal} → r.reading ≡ reading.Refused why → held_outcome (held.Refused why) ≡ number_told (datagram_of s)
+  pub octets-refused : {why : Refusal} → r ≡ Err why → held_outcome (Err why) ≡ number_told (datagram_of s)
   unfolding datagram_of
   octets-refused is = sym (ap (λ a. number_told (mapped (carried_by s) a)) (refused-read reads is))
 
@@ -43,15 +37,15 @@ module _ {s : List ℕ} {r : DatagramRead} (reads : DatagramReads s r) where
 pub room_for : (line old : List ℕ) → datagram_limit ≤ length old → (l : List ℕ) → line_octets line ≡ done l → length l ≤ length old
 room_for line old work l e = omega (arith, line-fits line l e)
 
-module _ (line : List ℕ) {old new : List ℕ} {r : Written} (work : datagram_limit ≤ length old) (p : Puts (line_octets line) old new r) where
-  pub line-number : {size : ℕ} (h : Held) → r ≡ written.Octets size → held_outcome h ≡ number_told (datagram_of (take size new))
+module _ (line : List ℕ) {old new : List ℕ} {r : Result ℕ Refusal} (work : datagram_limit ≤ length old) (p : Puts (line_octets line) old new r) where
+  pub line-number : {size : ℕ} (h : Result ℕ Refusal) → r ≡ Ok size → held_outcome h ≡ number_told (datagram_of (take size new))
       → held_outcome h ≡ number_told (datagram_in line)
   unfolding datagram_in
   line-number {size} h is so =
       let octets = read-octets (line_octets line) size old new (room_for line old work) (sym (ap written_outcome is) ∙ p.answer) p.lent in
       so ∙ sym (ap (λ (a : Answer (List ℕ)). number_told (answers.◌>>=◌ a datagram_of)) octets.0)
 
-  pub line_refused : {why : Refusal} → r ≡ written.Refused why → held_outcome (held.Refused why) ≡ number_told (datagram_in line)
+  pub line_refused : {why : Refusal} → r ≡ Err why → held_outcome (Err why) ≡ number_told (datagram_in line)
   unfolding datagram_in
   line_refused {why} is =
       sym (ap (λ (a : Answer (List ℕ)). number_told (answers.◌>>=◌ a datagram_of))
@@ -73,7 +67,7 @@ refused-same a why e other is =
     cc
 
 pub keeps-empty : (line : List ℕ) (at : ℕ) (numbers starts : List ℕ) (count : ℕ) → length line ≡ 0
-    → KeepsLine line at numbers numbers starts starts count (kept.Count count)
+    → KeepsLine line at numbers numbers starts starts count (Ok count)
 keeps-empty line at numbers starts count none =
     record {
       empty = λ is. (refl, refl, refl);
@@ -81,9 +75,9 @@ keeps-empty line at numbers starts count none =
       refuses = λ why some e. absurd (omega arith);
     }
 
-module _ (line : List ℕ) (at : ℕ) (numbers starts : List ℕ) (count : ℕ) {h : Held} (holds : held_outcome h ≡ number_told (datagram_in line))
+module _ (line : List ℕ) (at : ℕ) (numbers starts : List ℕ) (count : ℕ) {h : Result ℕ Refusal} (holds : held_outcome h ≡ number_told (datagram_in line))
     (some : length line ≡ 0 → ⊥) where
-  pub keeps-refused : {why : Refusal} → h ≡ held.Refused why → KeepsLine line at numbers numbers starts starts count (kept.Refused why)
+  pub keeps-refused : {why : Refusal} → h ≡ Err why → KeepsLine line at numbers numbers starts starts count (Err why)
   keeps-refused {why} is =
       let told : refused why ≡ number_told (datagram_in line) = sym (ap held_outcome is) ∙ holds in
       record {
@@ -92,11 +86,11 @@ module _ (line : List ℕ) (at : ℕ) (numbers starts : List ℕ) (count : ℕ) 
             let both : refused why ≡ done datagram.number = told ∙ ap number_told e in
             let z : ◌≡◌ {A = ℕ} 0 1 = cc in
             absurd (omega arith);
-        refuses = λ other more e. ap (λ (w : Refusal). kept.Refused w) (refused-same (datagram_in line) why told other e);
+        refuses = λ other more e. ap (λ (w : Refusal). Err w) (refused-same (datagram_in line) why told other e);
       }
 
-  pub keeps-number : {number : ℕ} → h ≡ held.Number number
-      → KeepsLine line at numbers (set numbers count number) starts (set starts count at) count (kept.Count (count + 1))
+  pub keeps-number : {number : ℕ} → h ≡ Ok number
+      → KeepsLine line at numbers (set numbers count number) starts (set starts count at) count (Ok (count + 1))
   keeps-number {number} is =
       let told : done number ≡ number_told (datagram_in line) = sym (ap held_outcome is) ∙ holds in
       record {

@@ -1,7 +1,8 @@
 -- The claims of this crate. Assumes nothing.
-use Prim.Native.Nat.{ℕ, ◌+◌, ◌-◌, ◌≤◌, ◌<◌}
+use Rattle.std.proofs.Common.{Result, Ok, Err}
+use Prim.Native.Nat.{ℕ, ◌-◌}
 use mathlib.Core.Path.{◌≡◌, refl, sym, ap, ap₂, ◌∙◌}
-use mathlib.Core.List.{List, [], ◌∷◌, map}
+use mathlib.Core.List.{List, map}
 use mathlib.Core.Logic.{⊎_elim}
 use lib.ListN.{length, take, drop, length-drop}
 use lib.Seq.{length-take-le}
@@ -10,12 +11,9 @@ use Rattle.octets.proofs.Laws.{below_or_not}
 use Rattle.trace_compare.specs.Pairing.{TraceLine, number_of_line}
 use Rattle.trace_compare.specs.Told.{PlacedAnswer, Where, told, stopped}
 use Rattle.trace_compare.specs.Promise.{compared_outcome}
-use Rattle.trace_compare.specs.declared.Compared.{Compared}
-use Rattle.trace_compare.specs.declared.Compared.TheVariants as compared
+use Rattle.trace_compare.specs.declared.TraceRefusal.{TraceRefusal}
 use Rattle.trace_compare_code.specs.Lines.{LineCut, datagram_lines, TraceKept, ReadsTrace}
-use Rattle.trace_compare_code.specs.LinesClaims.{OneOutcome, Claims}
-use Rattle.trace_compare_code.specs.declared.reading.TraceRead.{TraceRead}
-use Rattle.trace_compare_code.specs.declared.reading.TraceRead.TheVariants as read
+use Rattle.trace_compare_code.specs.LinesClaims.{Claims}
 use Rattle.trace_compare_code.proofs.Cutting.{line_of}
 
 -- ---- a line
@@ -40,34 +38,31 @@ kept-count : {which : ℕ} {trace numbers starts : List ℕ} {count : ℕ} → T
 kept-count {which} {trace} {numbers} {starts} {count} t =
     sym (length-take-le count numbers t.inside) ∙ ap length t.kept.each
 
-same_answer : (a b : Compared) → compared_outcome a ≡ compared_outcome b → a ≡ b
-same_answer (compared.Entries count) (compared.Entries other) e = let same : count ≡ other = cc in ap compared.Entries same
-same_answer (compared.Entries count) (compared.Refused why trace line) e = let z : ◌≡◌ {A = ℕ} 0 1 = cc in absurd (omega arith)
-same_answer (compared.Refused why trace line) (compared.Entries count) e = let z : ◌≡◌ {A = ℕ} 0 1 = cc in absurd (omega arith)
-same_answer (compared.Refused why trace line) (compared.Refused why₁ trace₁ line₁) e =
-    let reason : why ≡ why₁ = cc in
-    let place : ◌≡◌ {A = Where} (record { trace = trace; line = line }) (record { trace = trace₁; line = line₁ }) = cc in
-    λ i. compared.Refused (reason i) (place i).trace (place i).line
+same_refusal : (a b : TraceRefusal) → compared_outcome (Err a) ≡ compared_outcome (Err b) → a ≡ b
+same_refusal a b e =
+    let reason : a.why ≡ b.why = cc in
+    let place : ◌≡◌ {A = Where} (record { trace = a.trace; line = a.line }) (record { trace = b.trace; line = b.line }) = cc in
+    λ i. record { why = reason i; trace = (place i).trace; line = (place i).line }
 
 module _ {which : ℕ} {trace : List ℕ} where
-  one-read : {numbers starts others places : List ℕ} (r q : TraceRead) → ReadsTrace which trace numbers starts r
+  one-read : {numbers starts others places : List ℕ} (r q : Result ℕ TraceRefusal) → ReadsTrace which trace numbers starts r
       → ReadsTrace which trace others places q
       → r ≡ q
-  one-read (read.Datagrams count) (read.Datagrams other) a b =
-      ap read.Datagrams (kept-count (a.kept count refl) ∙ sym (kept-count (b.kept other refl)))
-  one-read (read.Datagrams count) (read.Refused answer) a b =
+  one-read (Ok count) (Ok other) a b =
+      ap (λ (n : ℕ). Ok n) (kept-count (a.kept count refl) ∙ sym (kept-count (b.kept other refl)))
+  one-read (Ok count) (Err answer) a b =
       let one = a.kept count refl in
       let two = b.refused answer refl in
       let both : told (datagram_lines which trace) ≡ stopped two.why two.place = sym one.read ∙ two.read in
       let z : ◌≡◌ {A = ℕ} 0 1 = cc in
       absurd (omega arith)
-  one-read (read.Refused answer) (read.Datagrams count) a b =
+  one-read (Err answer) (Ok count) a b =
       let one = b.kept count refl in
       let two = a.refused answer refl in
       let both : told (datagram_lines which trace) ≡ stopped two.why two.place = sym one.read ∙ two.read in
       let z : ◌≡◌ {A = ℕ} 0 1 = cc in
       absurd (omega arith)
-  one-read (read.Refused answer) (read.Refused other) a b =
+  one-read (Err answer) (Err other) a b =
       let one = a.refused answer refl in
       let two = b.refused other refl in
       let both : ◌≡◌ {A = PlacedAnswer (List TraceLine)} (stopped one.why one.place) (stopped two.why two.place) =
@@ -75,7 +70,7 @@ module _ {which : ℕ} {trace : List ℕ} where
       let why : one.why ≡ two.why = cc in
       let place : one.place ≡ two.place = cc in
       let stops : ◌≡◌ {A = PlacedAnswer ℕ} (stopped one.why one.place) (stopped two.why two.place) = ap₂ stopped why place in
-      ap read.Refused (same_answer answer other (one.told ∙ stops ∙ sym two.told))
+      ap (λ (a : TraceRefusal). Err a) (same_refusal answer other (one.told ∙ stops ∙ sym two.told))
 
 pub claims : Claims
 claims =

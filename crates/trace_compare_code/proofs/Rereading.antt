@@ -1,6 +1,7 @@
 -- Two lines that hold datagrams: the same texts differ in nothing, others are read again. Assumes nothing.
+use Rattle.std.proofs.Common.{Result, Ok, Err}
 use Prim.Native.Nat.{ℕ, ◌+◌, ◌-◌, ◌≤◌}
-use mathlib.Core.Path.{◌≡◌, refl, sym, ap, ap₂, ◌∙◌}
+use mathlib.Core.Path.{◌≡◌, sym, ap, ◌∙◌}
 use mathlib.Core.Bool.{Bool, true, false, false≢true}
 use mathlib.Core.List.{List, []}
 use lib.ListN.{length, take, drop}
@@ -9,10 +10,7 @@ use Rattle.length.specs.Answers as answers
 use Rattle.length.specs.Answers.{Answer, done, written_outcome, is_done}
 use Rattle.length.specs.Promise.{Puts}
 use Rattle.length.specs.declared.Refusal.{Refusal}
-use Rattle.length.specs.declared.Written.{Written}
-use Rattle.length.specs.declared.Written.TheVariants as written
 use Rattle.datagram.specs.Sizes.{datagram_limit}
-use Rattle.datagram.specs.Carried.{Carried}
 use Rattle.line.specs.Hex.{line_octets}
 use Rattle.line.specs.Promise.{Appends}
 use Rattle.line.proofs.Laws.{appends-none}
@@ -27,8 +25,8 @@ use Rattle.trace_compare_code.proofs.LinesLaws.{line_of, room_for}
 use Rattle.trace_compare_code.specs.Inner.{OctetsRead, HoldsDatagram}
 
 -- ---- the octets of a line
-module _ (line : List ℕ) {old new : List ℕ} {r : Written} (work : datagram_limit ≤ length old) (p : Puts (line_octets line) old new r) where
-  pub octets-done : {size : ℕ} → r ≡ written.Octets size → OctetsRead line new size
+module _ (line : List ℕ) {old new : List ℕ} {r : Result ℕ Refusal} (work : datagram_limit ≤ length old) (p : Puts (line_octets line) old new r) where
+  pub octets-done : {size : ℕ} → r ≡ Ok size → OctetsRead line new size
   unfolding datagram_in
   octets-done {size} is =
       let octets = read-octets (line_octets line) size old new (room_for line old work) (sym (ap written_outcome is) ∙ p.answer) p.lent in
@@ -38,7 +36,7 @@ module _ (line : List ℕ) {old new : List ℕ} {r : Written} (work : datagram_l
       }
 
   -- a line that holds a datagram is not refused
-  pub octets-never : {why : Refusal} → r ≡ written.Refused why → is_done (datagram_in line) ≡ true → OctetsRead line new 0
+  pub octets-never : {why : Refusal} → r ≡ Err why → is_done (datagram_in line) ≡ true → OctetsRead line new 0
   unfolding datagram_in
   octets-never {why} is holds =
       let not : is_done (datagram_in line) ≡ false =

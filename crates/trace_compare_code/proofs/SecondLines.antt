@@ -1,13 +1,12 @@
 -- What is listed at the lines of the second trace, by their numbers. Assumes nothing.
 use Prim.Native.Nat.{ℕ, suc, ◌+◌, ◌*◌, ◌≤◌, ◌<◌}
 use mathlib.Core.Path.{◌≡◌, refl, sym, ap, ap₂, ◌∙◌}
-use mathlib.Core.Bool.{Bool, true, false, cond}
+use mathlib.Core.Bool.{Bool, cond}
 use mathlib.Core.List.{List, [], ◌∷◌, ◌++◌, map, append_assoc, append-nil, map-append}
 use mathlib.Core.Logic.{⊎_elim}
-use mathlib.Core.Option.{Option, none, some}
-use lib.ListN.{length, get_or, get_elem?, take, drop, length-append, drop_of_length-le}
+use mathlib.Core.Option.{Option}
+use lib.ListN.{length, get_or, take, drop, drop_of_length-le}
 use lib.Seq.{take-suc, drop-cons}
-use lib.Dec.{ltb}
 use native.Mathlib.Numerals.{add-one}
 use native.Mathlib.Omega.{arith}
 use borrow.Author.Tests.{lt-ltb, le-ltb}
@@ -15,7 +14,7 @@ use Rattle.octets.proofs.Laws.{below_or_not}
 use Rattle.line.specs.Promise.{Appends}
 use Rattle.line.proofs.Laws.{appends-none, appends-then, appends-long}
 use Rattle.trace_compare.specs.Pairing.{TraceLine, number_of_line, having, mate}
-use Rattle.trace_compare.specs.Entries.{Entry, only_second, numbers_of, at_second, line_by_line}
+use Rattle.trace_compare.specs.Entries.{only_second, numbers_of, at_second, line_by_line}
 use Rattle.trace_compare_code.specs.Numbers.{often}
 use Rattle.trace_compare_code.specs.Rows.{entry_room}
 use Rattle.trace_compare_code.specs.Inner.{second_row, second_rows}

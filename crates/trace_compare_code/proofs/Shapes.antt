@@ -1,6 +1,7 @@
 -- Where the packet of a datagram stands in its octets, and what stands behind it. Assumes nothing.
+use Rattle.std.proofs.Common.{Result, Ok, Err}
 use Prim.Native.Nat.{ℕ, ◌+◌, ◌-◌, ◌≤◌}
-use mathlib.Core.Path.{◌≡◌, refl, sym, ap, ap₂, ◌∙◌}
+use mathlib.Core.Path.{◌≡◌, refl, sym, ap, ◌∙◌}
 use mathlib.Core.Bool.{Bool, true}
 use mathlib.Core.List.{List, ◌++◌, append_assoc, map}
 use lib.ListN.{length, get_or, take, drop, length-append}
@@ -13,20 +14,18 @@ use Rattle.length.specs.Claims.{Octets}
 use Rattle.length.specs.declared.Refusal.{Refusal}
 use Rattle.length.proofs.Laws.{not_done, done-same, read-writes, sizes-read}
 use Rattle.datagram.specs.Sizes.{packet_least, packet_limit}
-use Rattle.datagram.specs.Carried.{Extra, spares, parity, Carried}
+use Rattle.datagram.specs.Carried.{Carried}
 use Rattle.datagram.specs.Write.{number_octets, item_octets, extra_octets, extra_of, datagram_octets}
 use Rattle.datagram.specs.Read.{DatagramParts, after, octets_of, read_datagram, carried_by}
 use Rattle.datagram.specs.Promise.{DatagramReads}
 use Rattle.datagram.specs.declared.kind.Kind.{Kind}
 use Rattle.datagram.specs.declared.kind.Kind.TheVariants as kind
 use Rattle.datagram.specs.declared.reader.Part.{Part}
-use Rattle.datagram.specs.declared.reader.Reading.TheVariants as reading
 use Rattle.datagram.specs.declared.reader.DatagramRead.{DatagramRead}
 use Rattle.datagram.proofs.Laws.{read_done, item-done, read-inside, number-length, item-length, refused-read, accepted-read}
 use Rattle.trace_compare.specs.Traces.{datagram_of}
 use Rattle.trace_compare.proofs.Laws.{carried-octets}
 use Rattle.trace_compare_code.specs.Rows.{is_spares, has_spares, Shaped, ShapeOf}
-use Rattle.trace_compare_code.specs.declared.differing.Shape.{Shape}
 
 spares-told : (k : Kind) (items : List (List ℕ)) → is_spares k ≡ has_spares (extra_of k items)
 spares-told kind.Spares items = refl
@@ -84,13 +83,13 @@ module _ (s : List ℕ) (octets : Octets s) (d : DatagramParts) (read : read_dat
       }
 
 -- ---- by what the reader found
-module _ {s : List ℕ} {r : DatagramRead} (reads : DatagramReads s r) (octets : Octets s) where
-  module _ {number : ℕ} {packet : Part} {k : Kind} {count : ℕ} (is : r.reading ≡ reading.Datagram number packet k count) where
-    pub end-inside : packet.start + packet.size ≤ length s
+module _ {s : List ℕ} {r : Result DatagramRead Refusal} (reads : DatagramReads s r) (octets : Octets s) where
+  module _ {d : DatagramRead} (is : r ≡ Ok d) where
+    pub end-inside : d.packet.start + d.packet.size ≤ length s
     end-inside = inside s octets _ (accepted-read reads is)
 
-    pub shape-read : {told : Bool} → told ≡ is_spares k
-        → ShapeOf s (record { start = packet.start; end = packet.start + packet.size; spares = told })
+    pub shape-read : {told : Bool} → told ≡ is_spares d.kind
+        → ShapeOf s (record { start = d.packet.start; end = d.packet.start + d.packet.size; spares = told })
     shape-read {told} so =
         record {
           low = omega arith;
@@ -98,7 +97,7 @@ module _ {s : List ℕ} {r : DatagramRead} (reads : DatagramReads s r) (octets :
           shaped = shaped s octets _ (accepted-read reads is) told so;
         }
 
-  pub shape-refused : {why : Refusal} → r.reading ≡ reading.Refused why → ShapeOf s (record { start = 0; end = 0; spares = true })
+  pub shape-refused : {why : Refusal} → r ≡ Err why → ShapeOf s (record { start = 0; end = 0; spares = true })
   unfolding datagram_of
   shape-refused {why} is =
       record {

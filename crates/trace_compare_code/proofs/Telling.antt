@@ -1,9 +1,9 @@
 -- What two datagrams differ in, told by their octets: the packets, and what stands behind them. Assumes nothing.
-use Prim.Native.Nat.{ℕ, ◌+◌, ◌-◌, ◌≤◌}
+use Prim.Native.Nat.{ℕ, ◌-◌}
 use mathlib.Core.Path.{◌≡◌, refl, sym, ap, ap₂, ◌∙◌}
 use mathlib.Core.Bool.{Bool, true, false, not, ◌&&◌, ◌||◌, false≢true}
-use mathlib.Core.List.{List, [], ◌∷◌, ◌++◌}
-use mathlib.Core.Logic.{◌⊎◌, ⊎_elim}
+use mathlib.Core.List.{List, [], ◌++◌}
+use mathlib.Core.Logic.{⊎_elim}
 use lib.ListN.{length, take, drop}
 use lib.Dec.{eqb}
 use borrow.Author.Tests.{eq-eqb, eqb-true}
@@ -17,8 +17,8 @@ use Rattle.line.specs.Promise.{Appends}
 use Rattle.trace_compare.specs.Entries.{same, same_each, spares_apart, parity_apart, differences, given, entries_of, numbers_of}
 use Rattle.trace_compare.specs.Entries.{packet_differs, spares_differ, parity_differs}
 use Rattle.trace_compare.specs.Traces.{datagram_of}
-use Rattle.trace_compare.proofs.Laws.{same_refl, same_true, each-refl, each-true, rows_of, spares-itself, parity-itself, extras-same}
-use Rattle.trace_compare_code.specs.Rows.{has_spares, Shaped, ShapeOf, row_numbers, rows_told, difference_numbers}
+use Rattle.trace_compare.proofs.Laws.{same_refl, same_true, each-refl, each-true, rows_of, extras-same}
+use Rattle.trace_compare_code.specs.Rows.{has_spares, ShapeOf, row_numbers, rows_told, difference_numbers}
 use Rattle.trace_compare_code.specs.declared.differing.Shape.{Shape}
 use Rattle.trace_compare_code.proofs.Alike.{and-true}
 

@@ -1,27 +1,23 @@
 -- Line after line of a trace, on plain values: what is kept so far, and what is still to be read, are the whole trace. Assumes nothing.
-use Prim.Native.Nat.{ℕ, zero, suc, ◌+◌, ◌-◌, ◌≤◌, ◌<◌}
-use mathlib.Core.Path.{◌≡◌, refl, sym, ap, ap₂, ◌∙◌}
+use Rattle.std.proofs.Common.{Result, Ok, Err}
+use Prim.Native.Nat.{ℕ, suc, ◌+◌, ◌-◌, ◌≤◌}
+use mathlib.Core.Path.{◌≡◌, refl, sym, ap, ◌∙◌}
 use mathlib.Core.List.{List, [], ◌∷◌, ◌++◌, append-nil}
 use mathlib.Core.Logic.{◌⊎◌, inl, inr, ⊎_elim}
-use lib.ListN.{length, take, drop, set, length-append, length-set, length-drop}
-use lib.Seq.{length-take-le}
+use lib.ListN.{length, take, drop, set, length-append, length-set}
 use native.Mathlib.Numerals.{add-one}
 use native.Mathlib.Omega.{arith}
 use Rattle.length.specs.Answers.{Answer, done, refused}
 use Rattle.length.specs.declared.Refusal.{Refusal}
 use Rattle.datagram.specs.Carried.{Carried}
 use Rattle.line.specs.Lines.{lines_from}
-use Rattle.trace_compare.specs.Pairing.{TraceLine, number_of_line}
-use Rattle.trace_compare.specs.Told.{PlacedAnswer, told, stopped}
+use Rattle.trace_compare.specs.Pairing.{TraceLine}
+use Rattle.trace_compare.specs.Told.{told, stopped}
 use Rattle.trace_compare.specs.Traces.{datagram_in, lines_read, trace_read}
-use Rattle.trace_compare.specs.declared.Compared.TheVariants as compared
+use Rattle.trace_compare.specs.declared.TraceRefusal.{TraceRefusal}
 use Rattle.trace_compare.proofs.Laws.{behind, behind-none, behind-behind, read_none, read-empty, read_done, read-refused, empty-or-some}
 use Rattle.trace_compare_code.specs.Lines.{LineCut, RoomFor, KeepsLine, Stands, KeptTrace, RoomForLines, told_lines, datagram_lines}
-use Rattle.trace_compare_code.specs.Lines.{TraceKept}
-use Rattle.trace_compare_code.specs.Lines.{TraceRefused, ReadsTrace}
-use Rattle.trace_compare_code.specs.declared.reading.Kept.{Kept}
-use Rattle.trace_compare_code.specs.declared.reading.Kept.TheVariants as kept
-use Rattle.trace_compare_code.specs.declared.reading.TraceRead.TheVariants as read
+use Rattle.trace_compare_code.specs.Lines.{ReadsTrace}
 use Rattle.trace_compare_code.proofs.Cutting.{lines-past, line_of, CountedLines, lines_start, lines-turn, lines_left}
 use Rattle.trace_compare_code.proofs.Keeping.{kept-none, kept_more}
 
@@ -130,21 +126,21 @@ module _ {which : ℕ} {trace numbers starts : List ℕ} {count n at end next : 
             };
       }
 
-  module _ {new_numbers new_starts : List ℕ} {r : Kept}
+  module _ {new_numbers new_starts : List ℕ} {r : Result ℕ Refusal}
       (k : KeepsLine (take (end - at) (drop at trace)) at numbers new_numbers starts new_starts count r) where
-    pub turn_on : {now : ℕ} → r ≡ kept.Count now → ReadUpTo which trace new_numbers new_starts now (n + 1) next
+    pub turn_on : {now : ℕ} → r ≡ Ok now → ReadUpTo which trace new_numbers new_starts now (n + 1) next
     unfolding here
     turn_on {now} is =
         ⊎_elim
         (λ none.
         let so = k.empty (ap length none) in
-        let same : count ≡ now = let both : kept.Count count ≡ kept.Count now = sym so.0 ∙ is in cc in
+        let same : count ≡ now = let both : Ok count ≡ Ok now = sym so.0 ∙ is in cc in
         rw (so.1, so.2, sym same) (turn-empty none))
         (λ some.
         ⊎_elim
         (λ held.
         let so = k.holds held.0 some held.1 in
-        let same : count + 1 ≡ now = let both : kept.Count (count + 1) ≡ kept.Count now = sym so.0 ∙ is in cc in
+        let same : count + 1 ≡ now = let both : Ok (count + 1) ≡ Ok now = sym so.0 ∙ is in cc in
         rw (so.1, so.2, sym same) (turn-kept held.0 some held.1))
         (λ not.
         let so = k.refuses not.0 some not.1 in
@@ -153,14 +149,14 @@ module _ {which : ℕ} {trace numbers starts : List ℕ} {count n at end next : 
         (done-or-refused (datagram_in here)))
         (empty-or-some here)
 
-    pub turn-refused : {why : Refusal} → r ≡ kept.Refused why
-        → ReadsTrace which trace new_numbers new_starts (read.Refused (compared.Refused why which n))
+    pub turn-refused : {why : Refusal} → r ≡ Err why
+        → ReadsTrace which trace new_numbers new_starts (Err (record { why = why; trace = which; line = n }))
     unfolding here
     turn-refused {why} is =
         record {
           kept = λ other e. let z : ◌≡◌ {A = ℕ} 0 1 = cc in absurd (omega arith);
           refused = λ answer e.
-              let same : compared.Refused why which n ≡ answer = cc in
+              let same : ◌≡◌ {A = TraceRefusal} (record { why = why; trace = which; line = n }) answer = cc in
               rw (← same)
               (record {
                 why = why;
@@ -195,7 +191,7 @@ module _ {which : ℕ} {trace numbers starts : List ℕ} {count n at end next : 
 -- ---- all lines are read
 pub read_all : {which : ℕ} {trace numbers starts : List ℕ} {count n at : ℕ} → ReadUpTo which trace numbers starts count n at
     → length trace ≤ at
-    → ReadsTrace which trace numbers starts (read.Datagrams count)
+    → ReadsTrace which trace numbers starts (Ok count)
 unfolding datagram_lines
 read_all {which} {trace} {numbers} {starts} {count} {n} u past =
     let all : trace_read which trace ≡ told u.front =

@@ -1,37 +1,44 @@
 -- The whole call: the entries of both traces laid into the lent list, or why they are refused. Assumes nothing.
+use Rattle.std.proofs.Common.{Result, Ok, Err}
 use Prim.Native.Nat.{ℕ, ◌+◌, ◌*◌, ◌/◌, ◌≤◌, ◌<◌}
 use mathlib.Core.Path.{◌≡◌, refl, sym, ap, ap₂, ◌∙◌}
 use mathlib.Core.Bool.{Bool, true, false, cond, ◌||◌, false≢true}
-use mathlib.Core.List.{List, [], ◌∷◌, ◌++◌, map}
+use mathlib.Core.List.{List, [], ◌++◌}
 use mathlib.Core.Logic.{◌⊎◌, inl, inr, ⊎_elim}
-use lib.ListN.{length, take, drop, length-append}
+use lib.ListN.{length, take, drop}
 use lib.Seq.{length-take-le}
 use lib.Dec.{leb, ltb}
 use native.Mathlib.Omega.{arith}
 use borrow.Author.Tests.{le-leb, lt-leb, ltb-true, ltb-false}
 use Rattle.length.specs.Refusals.{refusal, too_many_lines, no_room}
-use Rattle.length.specs.Promise.{Put}
 use Rattle.length.specs.Answers.{done, refuse}
-use Rattle.length.specs.declared.Refusal.{Refusal}
 use Rattle.line.specs.Lines.{lines_from}
 use Rattle.line.specs.Promise.{Appends}
 use Rattle.line.proofs.Laws.{appends-then, appends-front, appends-long}
-use Rattle.trace_compare.specs.Pairing.{TraceLine, number_of_line}
+use Rattle.trace_compare.specs.Pairing.{TraceLine}
 use Rattle.trace_compare.specs.Entries.{Entry, numbers_of, at_first, at_second, line_by_line, entries}
-use Rattle.trace_compare.specs.Told.{PlacedAnswer, told, stopped, Where, no_place, at, mapped_placed}
+use Rattle.trace_compare.specs.Told.{PlacedAnswer, told, stopped, no_place, at, mapped_placed}
 use Rattle.trace_compare.specs.Traces.{lines_limit, first_trace, second_trace, trace_read, comparison}
 use Rattle.trace_compare.specs.Promise.{compared_outcome, fitted_entries, list_after, Compares}
 use Rattle.trace_compare.specs.Claims.{Few}
-use Rattle.trace_compare.specs.declared.Compared.{Compared}
-use Rattle.trace_compare.specs.declared.Compared.TheVariants as compared
+use Rattle.trace_compare.specs.declared.TraceRefusal.{TraceRefusal}
 use Rattle.trace_compare.proofs.Laws.{compared as both, too-many-first, too-many-second, few-compared, numbers-twice}
-use Rattle.trace_compare_code.specs.Rows.{line_room, entry_room}
-use Rattle.trace_compare_code.specs.Lines.{KeptTrace, datagram_lines, TraceKept, TraceRefused, ReadsTrace, RoomForLines}
-use Rattle.trace_compare_code.specs.declared.reading.TraceRead.{TraceRead}
-use Rattle.trace_compare_code.specs.declared.reading.TraceRead.TheVariants as read
-use Rattle.trace_compare_code.specs.Inner.{RefusedNowhere, too_many, FirstRead, ListsAll, second_rows}
+use Rattle.trace_compare_code.specs.Rows.{entry_room}
+use Rattle.trace_compare_code.specs.Lines.{KeptTrace, datagram_lines, TraceKept, TraceRefused, RoomForLines}
+use Rattle.trace_compare_code.specs.Inner.{RefusedNowhere, too_many, ListsAll, second_rows}
 use Rattle.trace_compare_code.proofs.FirstLines.{numbers-append, first-most, kept-long}
 use Rattle.trace_compare_code.proofs.SecondLines.{rows_same}
+
+-- the first trace was read, and neither trace has too many lines
+pub record FirstRead (first second a from : List ℕ) : Type 0 where
+  pub few : Few first second
+  pub read : trace_read first_trace first ≡ told (datagram_lines first_trace first)
+  pub kept : KeptTrace first (datagram_lines first_trace first) a from
+  pub short : length a ≤ lines_limit
+
+-- a refusal, as the outcome of the call
+abbrev refusal_outcome : TraceRefusal → PlacedAnswer ℕ
+refusal_outcome r = compared_outcome (Err r)
 
 -- ---- the entries of both
 module _ {first second : List ℕ} {lines others : List TraceLine} {a from b to : List ℕ} (x : KeptTrace first lines a from)
@@ -64,20 +71,20 @@ module _ (lines others : List TraceLine) {work found : List ℕ} {size : ℕ} (p
     pub size-long : size ≡ length (take size found)
     size-long = sym (length-take-le size found size-inside)
 
-    pub list_full : {old : List ℕ} {r : Compared} → length old < size → RefusedNowhere no_room r → ListsAll lines others old old r
+    pub list_full : {old : List ℕ} {r : TraceRefusal} → length old < size → RefusedNowhere no_room r → ListsAll lines others old old (Err r)
     list_full {old} {r} short is =
         let full : leb (length (numbers_of (entries lines others))) (length old) ≡ false =
         lt-leb (length (numbers_of (entries lines others))) (length old) (omega (arith, size_is)) in
         let told-so : fitted_entries (told (entries lines others)) old ≡ stopped (refusal no_room) no_place =
         ap (λ (t : Bool). at no_place (cond t (done (entries lines others)) (refuse no_room))) full in
         record {
-          answer = ap compared_outcome is.answer ∙ sym (ap (mapped_placed length) told-so);
+          answer = ap refusal_outcome is.answer ∙ sym (ap (mapped_placed length) told-so);
           lent = sym (ap (λ (t : PlacedAnswer (List Entry)). list_after t old) told-so);
         }
 
-    pub list_put : {old new : List ℕ} {n : ℕ} → size ≤ length old → Put (take size found) old new n
-        → ListsAll lines others old new (compared.Entries (size / 2))
-    list_put {old} {new} room put =
+    pub list_put : {old copied : List ℕ} → size ≤ length old → copied ≡ take size found
+        → ListsAll lines others old (copied ++ drop size old) (Ok (size / 2))
+    list_put {old} {copied} room same =
         let es = entries lines others in
         let fits : leb (length (numbers_of es)) (length old) ≡ true =
         le-leb (length (numbers_of es)) (length old) (omega (arith, size_is)) in
@@ -88,8 +95,7 @@ module _ (lines others : List TraceLine) {work found : List ℕ} {size : ℕ} (p
         record {
           answer = ap (λ (n : ℕ). told n) half ∙ sym (ap (mapped_placed length) told-so);
           lent =
-              put.lent
-              ∙ ap (λ (l : List ℕ). l ++ drop (length l) old) front
+              ap₂ (λ (l : List ℕ) (n : ℕ). l ++ drop n old) (same ∙ front) size_is
               ∙ sym (ap (λ (t : PlacedAnswer (List Entry)). list_after t old) told-so);
         }
 
@@ -103,7 +109,7 @@ or-none true b e = absurd (false≢true (sym e))
 or-none false b e = (refl, e)
 
 module _ (first second : List ℕ) {told-so : Bool} (is : told-so ≡ too_many first second) where
-  pub compares-too-many : {old : List ℕ} {r : Compared} → told-so ≡ true → RefusedNowhere too_many_lines r → Compares first second old old r
+  pub compares-too-many : {old : List ℕ} {r : TraceRefusal} → told-so ≡ true → RefusedNowhere too_many_lines r → Compares first second old old (Err r)
   unfolding too_many
   compares-too-many {old} {r} so made =
       let over : comparison first second ≡ stopped (refusal too_many_lines) no_place =
@@ -111,7 +117,7 @@ module _ (first second : List ℕ) {told-so : Bool} (is : told-so ≡ too_many f
       (λ e. too-many-second first second (ltb-true lines_limit (length (lines_from [] second)) e))
       (or_cases (ltb lines_limit (length (lines_from [] first))) (ltb lines_limit (length (lines_from [] second))) (sym is ∙ so)) in
       record {
-        answer = ap compared_outcome made.answer ∙ sym (ap (λ (t : PlacedAnswer (List Entry)). mapped_placed length (fitted_entries t old)) over);
+        answer = ap refusal_outcome made.answer ∙ sym (ap (λ (t : PlacedAnswer (List Entry)). mapped_placed length (fitted_entries t old)) over);
         lent = sym (ap (λ (t : PlacedAnswer (List Entry)). list_after (fitted_entries t old) old) over);
       }
 
@@ -144,7 +150,7 @@ module _ (first second old : List ℕ) where
       → comparison first second ≡ both x y
   by_read x y few left right = few-compared first second few ∙ ap₂ both left right
 
-  pub compares-first : {r : Compared} → Few first second → TraceRefused first_trace first r → Compares first second old old r
+  pub compares-first : {r : TraceRefusal} → Few first second → TraceRefused first_trace first r → Compares first second old old (Err r)
   compares-first {r} few t =
       let is = by_read (stopped t.why t.place) (trace_read second_trace second) few t.read refl in
       record {
@@ -153,7 +159,7 @@ module _ (first second old : List ℕ) where
       }
 
   module _ {a from : List ℕ} (f : FirstRead first second a from) where
-    pub compares-second : {r : Compared} → TraceRefused second_trace second r → Compares first second old old r
+    pub compares-second : {r : TraceRefusal} → TraceRefused second_trace second r → Compares first second old old (Err r)
     compares-second {r} t =
         let is = by_read (told (datagram_lines first_trace first)) (stopped t.why t.place) f.few f.read t.read in
         record {
@@ -161,7 +167,7 @@ module _ (first second old : List ℕ) where
           lent = sym (ap (λ (z : PlacedAnswer (List Entry)). list_after (fitted_entries z old) old) is);
         }
 
-    pub compares-all : {new b to : List ℕ} {n : ℕ} {r : Compared} → TraceKept second_trace second b to n
+    pub compares-all : {new b to : List ℕ} {n : ℕ} {r : Result ℕ TraceRefusal} → TraceKept second_trace second b to n
         → ListsAll (datagram_lines first_trace first) (datagram_lines second_trace second) old new r
         → Compares first second old new r
     compares-all t all =

@@ -1,5 +1,5 @@
 -- The contracts of this crate's inner functions that list the entries (rules 22.10, 22.12 and 22.14 to 22.16). Definitions only.
-use Rattle.std.specs.Prelude.{ℕ, ◌≤◌, ◌<◌, ◌≡◌, Bool, true, cond, ◌||◌, List, [], ◌∷◌, ◌++◌, length, take, ltb}
+use Rattle.std.specs.Prelude.{ℕ, ◌≤◌, ◌<◌, ◌≡◌, Bool, true, cond, ◌||◌, List, [], ◌∷◌, ◌++◌, length, take, ltb, Result}
 use Rattle.std.proofs.Math.Option.{some}
 use Rattle.std.proofs.Math.ListN.{get_elem?}
 use Rattle.length.specs.Refusals.{refusal}
@@ -8,14 +8,13 @@ use Rattle.line.specs.Promise.{Appends}
 use Rattle.trace_compare.specs.Pairing.{TraceLine, mate}
 use Rattle.trace_compare.specs.Entries.{numbers_of, only_second, at_first, entries}
 use Rattle.trace_compare.specs.Told.{told, mapped_placed}
-use Rattle.trace_compare.specs.Traces.{lines_limit, first_trace, datagram_of, datagram_in, trace_read}
+use Rattle.trace_compare.specs.Traces.{lines_limit, datagram_of, datagram_in}
 use Rattle.trace_compare.specs.Promise.{compared_outcome, fitted_entries, list_after}
-use Rattle.trace_compare.specs.Claims.{Few}
-use Rattle.trace_compare.specs.declared.Compared.{Compared}
-use Rattle.trace_compare.specs.declared.Compared.TheVariants as compared
+use Rattle.trace_compare.specs.declared.TraceRefusal.{TraceRefusal}
 use Rattle.trace_compare_code.specs.Numbers.{often}
 use Rattle.length.specs.Answers.{is_done}
-use Rattle.trace_compare_code.specs.Lines.{line_from, KeptTrace, datagram_lines}
+use Rattle.length.specs.declared.Reason.{Reason}
+use Rattle.trace_compare_code.specs.Lines.{line_from}
 
 -- ---- lines
 
@@ -44,21 +43,14 @@ second_rows first before (number ∷ numbers) = second_row first before number +
 -- ---- the whole
 
 -- a refusal that belongs to no line (rule 22.15)
-pub record RefusedNowhere (number : ℕ) (r : Compared) : Type 0 where
-  pub answer : r ≡ compared.Refused (refusal number) 0 0
+pub record RefusedNowhere (why : Reason) (r : TraceRefusal) : Type 0 where
+  pub answer : r ≡ record { why = refusal why; trace = 0; line = 0 }
 
 -- one of the traces has too many lines (rule 22.14)
 unfoldable pub too_many : List ℕ → List ℕ → Bool
 too_many first second = ltb lines_limit (length (lines_from [] first)) || ltb lines_limit (length (lines_from [] second))
 
--- the first trace was read, and neither trace has too many lines
-pub record FirstRead (first second a from : List ℕ) : Type 0 where
-  pub few : Few first second
-  pub read : trace_read first_trace first ≡ told (datagram_lines first_trace first)
-  pub kept : KeptTrace first (datagram_lines first_trace first) a from
-  pub short : length a ≤ lines_limit
-
 -- the entries of two traces that were read
-pub record ListsAll (first second : List TraceLine) (old new : List ℕ) (r : Compared) : Type 0 where
+pub record ListsAll (first second : List TraceLine) (old new : List ℕ) (r : Result ℕ TraceRefusal) : Type 0 where
   pub answer : compared_outcome r ≡ mapped_placed length (fitted_entries (told (entries first second)) old)
   pub lent : new ≡ list_after (fitted_entries (told (entries first second)) old) old

@@ -1,5 +1,5 @@
 -- The contracts of this crate's functions that read a trace line by line (rules 22.13, 22.15 and 22.21). Definitions only.
-use Rattle.std.specs.Prelude.{ℕ, ◌+◌, ◌-◌, ◌≤◌, ◌<◌, ◌≡◌, List, [], ◌∷◌, map, length, get_or, take, drop, set}
+use Rattle.std.specs.Prelude.{ℕ, ◌+◌, ◌-◌, ◌≤◌, ◌<◌, ◌≡◌, List, [], ◌∷◌, map, length, get_or, take, drop, set, Result, Ok, Err}
 use Rattle.std.proofs.Math.Option.{some}
 use Rattle.std.proofs.Math.ListN.{get_elem?}
 use Rattle.length.specs.Answers.{Answer, done, refused, mapped}
@@ -10,13 +10,7 @@ use Rattle.trace_compare.specs.Pairing.{TraceLine, number_of_line}
 use Rattle.trace_compare.specs.Told.{PlacedAnswer, told, stopped, Where}
 use Rattle.trace_compare.specs.Traces.{datagram_in, trace_read}
 use Rattle.trace_compare.specs.Promise.{compared_outcome}
-use Rattle.trace_compare.specs.declared.Compared.{Compared}
-use Rattle.trace_compare_code.specs.declared.reading.Held.{Held}
-use Rattle.trace_compare_code.specs.declared.reading.Held.TheVariants as held
-use Rattle.trace_compare_code.specs.declared.reading.Kept.{Kept}
-use Rattle.trace_compare_code.specs.declared.reading.Kept.TheVariants as kept
-use Rattle.trace_compare_code.specs.declared.reading.TraceRead.{TraceRead}
-use Rattle.trace_compare_code.specs.declared.reading.TraceRead.TheVariants as read
+use Rattle.trace_compare.specs.declared.TraceRefusal.{TraceRefusal}
 
 -- ---- one line
 
@@ -40,9 +34,9 @@ pub record LineCut (trace : List ℕ) (at end next : ℕ) : Type 0 where
   pub last : length trace ≤ end → next ≡ end
 
 -- what a line holds: the number of its datagram, or why it is refused
-abbrev pub held_outcome : Held → Answer ℕ
-held_outcome (held.Number number) = done number
-held_outcome (held.Refused why) = refused why
+abbrev pub held_outcome : Result ℕ Refusal → Answer ℕ
+held_outcome (Ok number) = done number
+held_outcome (Err why) = refused why
 
 abbrev pub number_told : Answer Carried → Answer ℕ
 number_told answer = mapped (λ (c : Carried). c.number) answer
@@ -55,11 +49,11 @@ pub record RoomFor (count : ℕ) (numbers starts : List ℕ) : Type 0 where
   pub place : count < length starts
 
 -- what is done with a line: an empty one is skipped; number and place are kept of one that holds a datagram (rule 22.13)
-pub record KeepsLine (line : List ℕ) (at : ℕ) (numbers new_numbers starts new_starts : List ℕ) (count : ℕ) (r : Kept) : Type 0 where
-  pub empty : length line ≡ 0 → (r ≡ kept.Count count) × (new_numbers ≡ numbers) × (new_starts ≡ starts)
+pub record KeepsLine (line : List ℕ) (at : ℕ) (numbers new_numbers starts new_starts : List ℕ) (count : ℕ) (r : Result ℕ Refusal) : Type 0 where
+  pub empty : length line ≡ 0 → (r ≡ Ok count) × (new_numbers ≡ numbers) × (new_starts ≡ starts)
   pub holds : (datagram : Carried) → 1 ≤ length line → datagram_in line ≡ done datagram
-      → (r ≡ kept.Count (count + 1)) × (new_numbers ≡ set numbers count datagram.number) × (new_starts ≡ set starts count at)
-  pub refuses : (why : Refusal) → 1 ≤ length line → datagram_in line ≡ refused why → r ≡ kept.Refused why
+      → (r ≡ Ok (count + 1)) × (new_numbers ≡ set numbers count datagram.number) × (new_starts ≡ set starts count at)
+  pub refuses : (why : Refusal) → 1 ≤ length line → datagram_in line ≡ refused why → r ≡ Err why
 
 -- ---- what is kept of a trace
 
@@ -95,12 +89,12 @@ pub record TraceKept (which : ℕ) (trace numbers starts : List ℕ) (count : �
   pub kept : KeptTrace trace (datagram_lines which trace) (take count numbers) starts
 
 -- a line is refused, and the answer names it (rule 22.15)
-pub record TraceRefused (which : ℕ) (trace : List ℕ) (answer : Compared) : Type 0 where
+pub record TraceRefused (which : ℕ) (trace : List ℕ) (answer : TraceRefusal) : Type 0 where
   pub why : Refusal
   pub place : Where
   pub read : trace_read which trace ≡ stopped why place
-  pub told : compared_outcome answer ≡ stopped why place
+  pub told : compared_outcome (Err answer) ≡ stopped why place
 
-pub record ReadsTrace (which : ℕ) (trace numbers starts : List ℕ) (r : TraceRead) : Type 0 where
-  pub kept : (count : ℕ) → r ≡ read.Datagrams count → TraceKept which trace numbers starts count
-  pub refused : (answer : Compared) → r ≡ read.Refused answer → TraceRefused which trace answer
+pub record ReadsTrace (which : ℕ) (trace numbers starts : List ℕ) (r : Result ℕ TraceRefusal) : Type 0 where
+  pub kept : (count : ℕ) → r ≡ Ok count → TraceKept which trace numbers starts count
+  pub refused : (answer : TraceRefusal) → r ≡ Err answer → TraceRefused which trace answer

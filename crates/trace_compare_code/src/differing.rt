@@ -8,23 +8,14 @@ ghost use Rattle.length.specs.Answers.{is_done};
 ghost use Rattle.trace_compare_code.specs.Rows.{entry_room, line_room, is_spares, ShapeOf, row_numbers, rows_told};
 ghost use Rattle.trace_compare_code.specs.Rows.{difference_numbers};
 
-use datagram::{Kind, Reading};
+use datagram::Kind;
 use trace_compare::Entry;
 
-// Whether two runs of octets are equal. The loop has no early exit, so that the compiler can compare many octets at once.
+// Whether two runs of octets are equal.
 pub fn same(a: &[u8], b: &[u8]) -> bool
     ensures { result ≡ is_same a.now b.now }
 {
-    if a.len() != b.len() {
-        return false;
-    }
-    let mut all = true;
-    let mut i = 0;
-    while i < a.len() {
-        all = all & (a[i] == b[i]);
-        i += 1;
-    }
-    all
+    a == b
 }
 
 // Where the packet of a datagram begins and ends, and whether spares follow it.
@@ -48,24 +39,17 @@ fn has_spares(kind: Kind) -> bool
 fn shape_of(octets: &[u8]) -> Shape
     ensures { ShapeOf octets.now result }
 {
-    let found = datagram_reader::read(octets);
-    let reading = found.reading;
-    match reading {
-        Reading::Datagram {
-            number: _,
-            packet,
-            kind,
-            count: _,
-        } => {
-            let start = packet.start;
-            let end = start + packet.size;
+    match datagram_reader::read(octets) {
+        Ok(read) => {
+            let start = read.packet.start;
+            let end = start + read.packet.size;
             Shape {
                 start,
                 end,
-                spares: has_spares(kind),
+                spares: has_spares(read.kind),
             }
         }
-        Reading::Refused(_) => Shape {
+        Err(_) => Shape {
             start: 0,
             end: 0,
             spares: true,
@@ -79,9 +63,8 @@ pub fn put_entry(list: &mut [u16], at: usize, number: u16, code: u16) -> usize
     ensures { Appends (number ∷ code ∷ []) list.old at list.new result }
 {
     list[at] = number;
-    let next = at + 1;
-    list[next] = code;
-    next + 1
+    list[at + 1] = code;
+    at + Entry::SIZE
 }
 
 // Writes an entry if it applies.
@@ -90,12 +73,14 @@ fn put_row(applies: bool, list: &mut [u16], at: usize, number: u16, code: u16) -
     ensures { Appends (row_numbers applies number code) list.old at list.new result }
 {
     if applies {
-        return put_entry(list, at, number, code);
+        put_entry(list, at, number, code)
+    } else {
+        at
     }
-    at
 }
 
 // Writes the entries of a pair, from what was found equal and whether spares follow the packets (rules 22.8 and 22.9).
+// `&` and `|` do not branch: with `&&` and `||` the proof would need a case for each branch.
 fn put_rows(
     number: u16,
     packets: bool,
@@ -135,11 +120,7 @@ pub fn put_differences(number: u16, a: &[u8], b: &[u8], list: &mut [u16], at: us
 {
     let left = shape_of(a);
     let right = shape_of(b);
-    let from = left.start;
-    let to = left.end;
-    let begin = right.start;
-    let stop = right.end;
-    let packets = same(&a[from..to], &b[begin..stop]);
-    let extras = same(&a[to..], &b[stop..]);
+    let packets = same(&a[left.start..left.end], &b[right.start..right.end]);
+    let extras = same(&a[left.end..], &b[right.end..]);
     put_rows(number, packets, extras, left.spares, right.spares, list, at)
 }

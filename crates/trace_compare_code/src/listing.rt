@@ -35,11 +35,10 @@ fn put_first(
     let k = count_of(&a[..i], number);
     let j = find_kth(b, number, k);
     if j < b.len() {
-        let x = from[i];
-        let y = to[j];
-        return put_pair(number, first, x, second, y, list, at);
+        put_pair(number, first, from[i], second, to[j], list, at)
+    } else {
+        put_entry(list, at, number, Entry::ONLY_FIRST)
     }
-    put_entry(list, at, number, Entry::ONLY_FIRST)
 }
 
 // Writes what is listed for all lines of the first trace, in order.
@@ -59,10 +58,8 @@ pub fn list_first(
         (datagram_lines second_trace second.now))) list.old 0 list.new result }
 {
     let mut at = 0;
-    let mut i = 0;
-    while i < a.len() {
+    for i in 0..a.len() {
         at = put_first(first, a, from, second, b, to, i, list, at);
-        i += 1;
     }
     at
 }
@@ -78,9 +75,10 @@ fn put_second(a: &[u16], b: &[u16], j: usize, list: &mut [u16], at: usize) -> us
     let k = count_of(&b[..j], number);
     let all = count_of(a, number);
     if k < all {
-        return at;
+        at
+    } else {
+        put_entry(list, at, number, Entry::ONLY_SECOND)
     }
-    put_entry(list, at, number, Entry::ONLY_SECOND)
 }
 
 // Writes what is listed for all lines of the second trace, behind what is listed for the first (rule 22.12).
@@ -89,10 +87,8 @@ pub fn list_second(a: &[u16], b: &[u16], list: &mut [u16], from: usize) -> usize
     ensures { Appends (second_rows a.now [] b.now) list.old from list.new result }
 {
     let mut at = from;
-    let mut j = 0;
-    while j < b.len() {
+    for j in 0..b.len() {
         at = put_second(a, b, j, list, at);
-        j += 1;
     }
     at
 }

@@ -7,11 +7,8 @@ pub fn count_of(numbers: &[u16], number: u16) -> usize
     ensures { result ≡ often number numbers.now }
 {
     let mut count = 0;
-    let mut i = 0;
-    while i < numbers.len() {
-        let here = numbers[i];
-        i += 1;
-        if here == number {
+    for here in numbers {
+        if *here == number {
             count += 1;
         }
     }
@@ -23,17 +20,13 @@ pub fn find_kth(numbers: &[u16], number: u16, k: usize) -> usize
     ensures { KthPlace numbers.now number k result }
 {
     let mut left = k;
-    let mut j = 0;
-    while j < numbers.len() {
-        let at = j;
-        let here = numbers[at];
-        j += 1;
-        if here == number {
+    for (j, here) in numbers.iter().enumerate() {
+        if *here == number {
             if left == 0 {
-                return at;
+                return j;
             }
             left -= 1;
         }
     }
-    j
+    numbers.len()
 }

@@ -4,11 +4,11 @@ ghost use Rattle.line.specs.Lines.{lines_from};
 ghost use Rattle.trace_compare.specs.Traces.{datagram_of, datagram_in};
 ghost use Rattle.trace_compare_code.specs.Lines.{LineCut, held_outcome, number_told, RoomFor, KeepsLine, RoomForLines, ReadsTrace};
 
-use datagram::{Datagram, Reading};
-use length::{Refusal, Written};
+use datagram::Datagram;
+use length::Refusal;
 use line_code::find_feed;
 use line_hex::hex_to_octets;
-use trace_compare::Compared;
+use trace_compare::TraceRefusal;
 
 // Where a line ends, and where the next one begins.
 #[derive(Drop)]
@@ -25,11 +25,8 @@ pub fn line_at(trace: &[u8], at: usize) -> LineAt
     let rest = &trace[at..];
     let stop = find_feed(rest);
     let end = at + stop;
-    if stop < rest.len() {
-        let next = end + 1;
-        return LineAt { end, next };
-    }
-    LineAt { end, next: end }
+    let next = if stop < rest.len() { end + 1 } else { end };
+    LineAt { end, next }
 }
 
 // How many lines a trace has.
@@ -38,6 +35,7 @@ pub fn count_lines(trace: &[u8]) -> usize
 {
     let mut count = 0;
     let mut at = 0;
+    // The place moves past the line that was found.
     while at < trace.len() {
         let line = line_at(trace, at);
         at = line.next;
@@ -46,107 +44,73 @@ pub fn count_lines(trace: &[u8]) -> usize
     count
 }
 
-// What a line holds: the number of its datagram, or why the line is refused.
-#[derive(Drop)]
-enum Held {
-    Number(u16),
-    Refused(Refusal),
-}
-
-fn read_octets(octets: &[u8]) -> Held
+// The number of the datagram that some octets hold.
+fn read_octets(octets: &[u8]) -> Result<u16, Refusal>
     ensures { held_outcome result ≡ number_told (datagram_of octets.now) }
 {
-    let found = datagram_reader::read(octets);
-    let reading = found.reading;
-    match reading {
-        Reading::Datagram {
-            number,
-            packet: _,
-            kind: _,
-            count: _,
-        } => Held::Number(number),
-        Reading::Refused(why) => Held::Refused(why),
-    }
+    Ok(datagram_reader::read(octets)?.number)
 }
 
-fn read_line(line: &[u8]) -> Held
+// The number of the datagram that a line holds.
+fn read_line(line: &[u8]) -> Result<u16, Refusal>
     ensures { held_outcome result ≡ number_told (datagram_in line.now) }
 {
     let mut work = [0u8; Datagram::LIMIT];
-    let read = hex_to_octets(line, &mut work);
-    match read {
-        Written::Octets(size) => read_octets(&work[..size]),
-        Written::Refused(why) => Held::Refused(why),
-    }
+    let size = hex_to_octets(line, &mut work)?;
+    read_octets(&work[..size])
 }
 
-// How many datagrams were kept, or why a line is refused.
-#[derive(Drop)]
-enum Kept {
-    Count(usize),
-    Refused(Refusal),
-}
-
-// Keeps the number and the place of a line that begins at `at`, behind those already kept. An empty line is skipped (rule 22.13).
+// Keeps the number and the place of a line that begins at `at`, behind those already kept, and returns how many are kept then. An empty
+// line is skipped (rule 22.13).
 fn keep_line(
     line: &[u8],
     at: usize,
     numbers: &mut [u16],
     starts: &mut [usize],
     count: usize,
-) -> Kept
+) -> Result<usize, Refusal>
     requires { RoomFor count numbers.old starts.old }
     ensures { KeepsLine line.now at numbers.old numbers.new starts.old
         starts.new count result }
 {
     if line.len() == 0 {
-        return Kept::Count(count);
+        return Ok(count);
     }
-    let held = read_line(line);
-    match held {
-        Held::Refused(why) => Kept::Refused(why),
-        Held::Number(number) => {
-            numbers[count] = number;
-            starts[count] = at;
-            Kept::Count(count + 1)
-        }
-    }
+    let number = read_line(line)?;
+    numbers[count] = number;
+    starts[count] = at;
+    Ok(count + 1)
 }
 
-// A trace after reading: how many datagrams it has, or the refusal of one of its lines.
-#[derive(Drop)]
-pub enum TraceRead {
-    Datagrams(usize),
-    Refused(Compared),
-}
-
-// Reads all lines of a trace; `which` is the first or the second. A refusal names the trace and the line (rule 22.15).
-pub fn read_trace(which: u8, trace: &[u8], numbers: &mut [u16], starts: &mut [usize]) -> TraceRead
+// Reads all lines of a trace, the first or the second, as `which` says, and returns how many datagrams it has. A refusal names the trace
+// and the line (rule 22.15).
+pub fn read_trace(
+    which: u8,
+    trace: &[u8],
+    numbers: &mut [u16],
+    starts: &mut [usize],
+) -> Result<usize, TraceRefusal>
     requires { RoomForLines trace.now numbers.old starts.old }
     ensures { ReadsTrace which trace.now numbers.new starts.new result }
 {
     let mut count = 0;
     let mut line = 1;
     let mut at = 0;
+    // The place moves past the line that was read. A match adds trace and line to a refusal: with `map_err` the proof did not close.
     while at < trace.len() {
         let here = line_at(trace, at);
-        let end = here.end;
-        let next = here.next;
-        let kept = keep_line(&trace[at..end], at, numbers, starts, count);
-        match kept {
-            Kept::Refused(why) => {
-                return TraceRead::Refused(Compared::Refused {
+        match keep_line(&trace[at..here.end], at, numbers, starts, count) {
+            Ok(now) => count = now,
+            Err(why) => {
+                return Err(TraceRefusal {
                     why,
                     trace: which,
                     line,
                 });
             }
-            Kept::Count(now) => {
-                count = now;
-                at = next;
-                line += 1;
-            }
         }
+        at = here.next;
+        line += 1;
     }
-    TraceRead::Datagrams(count)
+    Ok(count)
 }

@@ -11,7 +11,6 @@ ghost use Rattle.trace_compare_code.specs.Inner.{OctetsRead, HoldsDatagram};
 use crate::differing::{put_differences, same};
 use crate::reading::line_at;
 use datagram::Datagram;
-use length::Written;
 use line_hex::hex_to_octets;
 
 // Writes the octets of a line that is known to hold a datagram, and returns how many there are. The refusal never happens.
@@ -22,8 +21,8 @@ fn octets_of(line: &[u8], out: &mut [u8]) -> usize
 {
     let read = hex_to_octets(line, out);
     match read {
-        Written::Octets(size) => size,
-        Written::Refused(_) => 0,
+        Ok(size) => size,
+        Err(_) => 0,
     }
 }
 
@@ -63,7 +62,5 @@ pub fn put_pair(
 {
     let a = line_at(first, from);
     let b = line_at(second, to);
-    let stop = a.end;
-    let end = b.end;
-    put_lines(number, &first[from..stop], &second[to..end], list, at)
+    put_lines(number, &first[from..a.end], &second[to..b.end], list, at)
 }

@@ -1,12 +1,15 @@
 -- Two outcomes of a replay are one, and what it refuses. Assumes nothing.
 use Prim.Native.Nat.{ℕ}
+use Rattle.std.proofs.Common.{Result, Ok, Err}
 use mathlib.Core.Path.{◌≡◌, refl, sym, ap, ◌∙◌}
 use mathlib.Core.List.{List, []}
 use mathlib.Core.Option.{some}
 use native.Mathlib.Omega.{arith}
 use Rattle.length.specs.Answers.{Answer, done, refused, fitted, over}
+use Rattle.length.specs.declared.Refusal.{Refusal}
 use Rattle.length.specs.Tables.{unless, first, refusal_in, room_row}
 use Rattle.length.proofs.Laws.{fitted-first, refused-some}
+use Rattle.length.specs.declared.Reason.{Reason}
 use Rattle.line.specs.Lines.{Made}
 use Rattle.session.specs.View as views
 use Rattle.session_held.specs.Table.{counts_of}
@@ -15,20 +18,19 @@ use Rattle.trace_replay.specs.Replay.{replay}
 use Rattle.trace_replay.specs.Promise.{ReplayAnswer, replayed_outcome, fitted_text, replay_answer, Replays}
 use Rattle.trace_replay.specs.Claims.{ReplayRefuses, OneOutcome}
 use Rattle.trace_replay.specs.declared.Replayed.{Replayed}
-use Rattle.trace_replay.specs.declared.Replayed.TheVariants as replayed
 
 -- ---- an answer, by its outcome
 counts_in : views.Counts → Counts
 counts_in c = record { received = c.received; spare = c.spare; repaired = c.repaired; lost = c.lost }
 
-answer_of : Answer ReplayAnswer → Replayed
-answer_of (done told) = replayed.Done (counts_in told.counts) told.size
-answer_of (refused why) = replayed.Refused why
+answer_of : Answer ReplayAnswer → Result Replayed Refusal
+answer_of (done told) = Ok (record { counts = counts_in told.counts; size = told.size })
+answer_of (refused why) = Err why
 
-answer_back : (r : Replayed) → answer_of (replayed_outcome r) ≡ r
+answer_back : (r : Result Replayed Refusal) → answer_of (replayed_outcome r) ≡ r
 unfolding answer_of counts_in
-answer_back (replayed.Done counts size) = refl
-answer_back (replayed.Refused why) = refl
+answer_back (Ok r) = refl
+answer_back (Err why) = refl
 
 pub one-outcome : OneOutcome
 one-outcome =
@@ -42,18 +44,18 @@ told-refusal : (made : Made) (text : Answer (List ℕ)) → refusal_in (replay_a
 told-refusal made (done t) = refl
 told-refusal made (refused why) = refl
 
-room : {trace numbers old new : List ℕ} {r : Replayed} → Replays trace numbers old new r
+room : {trace numbers old new : List ℕ} {r : Result Replayed Refusal} → Replays trace numbers old new r
     → refusal_in (replayed_outcome r) ≡ first (room_row (replay numbers trace).text old)
 unfolding unless
 room {trace} {numbers} {old} a =
     let made = replay numbers trace in
     ap refusal_in a.answer ∙ told-refusal made (fitted_text made old) ∙ fitted-first [] made.text old
 
-over-refused : (text : Answer (List ℕ)) (old : List ℕ) {n : ℕ} → refusal_in text ≡ some n → over text old ≡ old
+over-refused : (text : Answer (List ℕ)) (old : List ℕ) {n : Reason} → refusal_in text ≡ some n → over text old ≡ old
 over-refused (done t) old e = let z : ◌≡◌ {A = ℕ} 0 1 = cc in absurd (omega arith)
 over-refused (refused why) old e = refl
 
-unchanged : {trace numbers old new : List ℕ} {r : Replayed} {n : ℕ} → Replays trace numbers old new r
+unchanged : {trace numbers old new : List ℕ} {r : Result Replayed Refusal} {n : Reason} → Replays trace numbers old new r
     → refusal_in (replayed_outcome r) ≡ some n → new ≡ old
 unchanged {trace} {numbers} {old} a e =
     let made = replay numbers trace in

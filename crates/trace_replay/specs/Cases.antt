@@ -1,12 +1,11 @@
 -- Replays of small traces. Each case cites the rule that it shows. Definitions only.
-use Rattle.std.specs.Prelude.{ℕ, ◌≡◌, List, [], ◌∷◌, ◌++◌, replicate}
-use Rattle.length.specs.Refusals.{refusal}
+use Rattle.std.specs.Prelude.{ℕ, ◌≡◌, List, [], ◌∷◌, ◌++◌, replicate, Ok, Err}
+use Rattle.length.specs.Refusals.{refusal, numbered}
 use Rattle.session.specs.Cases.{arrived, started}
 use Rattle.line.specs.Lines.{silent}
 use Rattle.line.specs.Text.{characters}
 use Rattle.trace_replay.specs.Replay.{replay, replay_steps}
 use Rattle.trace_replay.specs.Promise.{Replays}
-use Rattle.trace_replay.specs.declared.Replayed.TheVariants as replayed
 
 -- the trace of rule 26.17: its second datagram has number 2, and comes again after number 2 has left
 abbrev pub whole_case : List ℕ
@@ -26,11 +25,11 @@ pub record AnswerCases : Type 0 where
   pub counts : Replays all_kinds [] (replicate 108 7)
       (characters "020000060000000000\n000001C00180000055\n00000206\n01000302\n01000403\n01000504\n01000605\n00000706\n030008\n030009\n"
       ++ (7 ∷ 7 ∷ []))
-      (replayed.Done (record { received = 3; spare = 4; repaired = 1; lost = 2 }) 106)
+      (Ok (record { counts = record { received = 3; spare = 4; repaired = 1; lost = 2 }; size = 106 }))
   -- number 2 dropped: 16 characters fit a buffer of 16, and in one of 15 nothing is written (rule 21.6)
   pub fits : Replays whole_case (2 ∷ []) (replicate 16 7) (characters "00000006\n030001\n")
-      (replayed.Done (record { received = 1; spare = 0; repaired = 0; lost = 1 }) 16)
-  pub no_room : Replays whole_case (2 ∷ []) (replicate 15 7) (replicate 15 7) (replayed.Refused (refusal 13))
+      (Ok (record { counts = record { received = 1; spare = 0; repaired = 0; lost = 1 }; size = 16 }))
+  pub no_room : Replays whole_case (2 ∷ []) (replicate 15 7) (replicate 15 7) (Err (refusal (numbered 13)))
 
 pub record Cases : Type 0 where
   pub answers : AnswerCases

@@ -1,10 +1,11 @@
 -- The claims of this crate about the replay (rules 21.1 to 21.7), a field for each. Statements alone.
-use Rattle.std.specs.Prelude.{ℕ, ◌≡◌, ◌↔◌, true, false, cond}
+use Rattle.std.specs.Prelude.{ℕ, ◌≡◌, ◌↔◌, true, false, cond, Result}
 use mathlib.Core.List.{List, [], ◌∷◌, ◌++◌, Memᴰ as Among}
 use Rattle.std.proofs.Math.Option.{some}
 use Rattle.length.specs.Answers.{done, refused}
 use Rattle.length.specs.Tables.{first, refusal_in, room_row}
 use Rattle.length.specs.declared.Refusal.{Refusal}
+use Rattle.length.specs.declared.Reason.{Reason}
 use Rattle.session.specs.View.{View, fresh_view}
 use Rattle.line.specs.Lines.{Made, line_feed, refusal_line, answer_line, step, lines_from, steps, program}
 use Rattle.trace_replay.specs.Replay.{number_in, listed, dropped, replay_step, replay_steps, replay}
@@ -71,14 +72,15 @@ pub record Lists : Type 0 where
 
 -- ---- 13 is given if the lines do not fit, and then nothing is written (rule 21.6)
 pub record ReplayRefuses : Type 0 where
-  pub room : {trace numbers old new : List ℕ} {r : Replayed} → Replays trace numbers old new r
+  pub room : {trace numbers old new : List ℕ} {r : Result Replayed Refusal} → Replays trace numbers old new r
       → refusal_in (replayed_outcome r) ≡ first (room_row (replay numbers trace).text old)
-  pub unchanged : {trace numbers old new : List ℕ} {r : Replayed} {n : ℕ} → Replays trace numbers old new r
+  pub unchanged : {trace numbers old new : List ℕ} {r : Result Replayed Refusal} {n : Reason} → Replays trace numbers old new r
       → refusal_in (replayed_outcome r) ≡ some n → new ≡ old
 
 -- two outcomes that the promise allows are equal (rule 28.14)
 pub record OneOutcome : Type 0 where
-  pub replay : {trace numbers old new other : List ℕ} {r q : Replayed} → Replays trace numbers old new r → Replays trace numbers old other q
+  pub replay : {trace numbers old new other : List ℕ} {r q : Result Replayed Refusal} → Replays trace numbers old new r
+      → Replays trace numbers old other q
       → (r ≡ q) × (new ≡ other)
 
 pub record Claims : Type 0 where

@@ -1,12 +1,12 @@
 -- The promise of the replay (rules 21.2 and 21.6), as a record that its contract cites. Definitions only.
-use Rattle.std.specs.Prelude.{ℕ, ◌≡◌, List, length}
+use Rattle.std.specs.Prelude.{ℕ, ◌≡◌, List, length, Result, Ok, Err}
 use Rattle.length.specs.Answers.{Answer, done, refused, mapped, fitted, over}
+use Rattle.length.specs.declared.Refusal.{Refusal}
 use Rattle.session.specs.View.{Counts}
 use Rattle.session_held.specs.Table.{counts_of}
 use Rattle.line.specs.Lines.{Made}
 use Rattle.trace_replay.specs.Replay.{replay}
 use Rattle.trace_replay.specs.declared.Replayed.{Replayed}
-use Rattle.trace_replay.specs.declared.Replayed.TheVariants as replayed
 
 -- the four counts (rule 21.2), and how many characters are written
 pub record ReplayAnswer : Type 0 where
@@ -14,9 +14,9 @@ pub record ReplayAnswer : Type 0 where
   pub size : ℕ
 
 -- each case of the answer, with the rules' number and values (rule 30.10)
-abbrev pub replayed_outcome : Replayed → Answer ReplayAnswer
-replayed_outcome (replayed.Done counts size) = done (record { counts = counts_of counts; size = size })
-replayed_outcome (replayed.Refused why) = refused why
+abbrev pub replayed_outcome : Result Replayed Refusal → Answer ReplayAnswer
+replayed_outcome (Ok r) = done (record { counts = counts_of r.counts; size = r.size })
+replayed_outcome (Err why) = refused why
 
 -- the text, or 13 if it does not fit (rule 21.6)
 abbrev pub fitted_text : Made → List ℕ → Answer (List ℕ)
@@ -27,6 +27,6 @@ abbrev pub replay_answer : Made → Answer (List ℕ) → Answer ReplayAnswer
 replay_answer made text = mapped (λ (t : List ℕ). record { counts = made.after.counts; size = length t }) text
 
 -- the answer, and the whole of the caller's buffer: a refusal writes nothing (rule 21.6)
-pub record Replays (trace numbers old new : List ℕ) (r : Replayed) : Type 0 where
+pub record Replays (trace numbers old new : List ℕ) (r : Result Replayed Refusal) : Type 0 where
   pub answer : replayed_outcome r ≡ replay_answer (replay numbers trace) (fitted_text (replay numbers trace) old)
   pub lent : new ≡ over (fitted_text (replay numbers trace) old) old

@@ -1,13 +1,12 @@
-// What a replay returns (rules 21.1 to 21.6).
+// What a replay returns that is not refused (rules 21.1 to 21.6).
 #![tactic(auto)]
 
-use length::Refusal;
 use session_held::Counts;
 
-// The session's four counts and how many characters the replay wrote to the front of the caller's buffer (rule 21.2), or why it is
-// refused (rule 21.6).
+// The session's four counts, and how many characters the replay wrote to the front of the caller's buffer (rule 21.2).
 #[derive(Drop)]
-pub enum Replayed {
-    Done { counts: Counts, size: usize },
-    Refused(Refusal),
+#[derive(Clone, Copy)]
+pub struct Replayed {
+    pub counts: Counts,
+    pub size: usize,
 }

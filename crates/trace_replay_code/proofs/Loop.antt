@@ -1,8 +1,9 @@
 -- Line after line of a trace, on plain values: the text so far, and what is still to come of the rest, are the whole replay. Assumes
 -- nothing.
+use Rattle.std.proofs.Common.{Ok, Err}
 use Prim.Native.Nat.{ℕ, ◌+◌, ◌-◌, ◌≤◌, ◌<◌}
 use mathlib.Core.Path.{◌≡◌, refl, sym, ap, ap₂, ◌∙◌}
-use mathlib.Core.Bool.{Bool, true, false, cond}
+use mathlib.Core.Bool.{Bool, true, cond}
 use mathlib.Core.List.{List, [], ◌++◌, append_assoc, append-nil}
 use lib.ListN.{length, take, drop, length-append, drop_of_length-le}
 use lib.Seq.{length-take-le}
@@ -11,18 +12,16 @@ use native.Mathlib.Omega.{arith}
 use borrow.Author.Tests.{le-leb, lt-leb}
 use Rattle.length.specs.Refusals.{no_room}
 use Rattle.length.specs.Promise.{RefusalMade}
-use Rattle.length.specs.Answers.{Answer, done, refused, refuse}
+use Rattle.length.specs.Answers.{done, refused, refuse}
 use Rattle.length.specs.declared.Refusal.{Refusal}
-use Rattle.session.specs.View as views
 use Rattle.session.specs.View.{View, fresh_view}
 use Rattle.session_held.specs.Table.{Lent, view_in, counts_of}
 use Rattle.session_held.specs.Laid.{InRanges}
 use Rattle.line.specs.Lines.{Made, silent, ◌then◌, lines_from}
-use Rattle.line.specs.Promise.{Does, Able, step_limit}
+use Rattle.line.specs.Promise.{Able, step_limit}
 use Rattle.line.proofs.Laws.{appends-front, appends-long}
 use Rattle.trace_replay.specs.Replay.{replay_steps, replay}
-use Rattle.trace_replay.specs.Promise.{ReplayAnswer, replayed_outcome, fitted_text, replay_answer}
-use Rattle.trace_replay.specs.declared.Replayed.TheVariants as replayed
+use Rattle.trace_replay.specs.Promise.{fitted_text, replay_answer}
 use Rattle.trace_replay.proofs.Laws.{lines_none}
 use Rattle.trace_replay_code.specs.Inner.{played_from, TakesTraceLine, Lays, Plays}
 use Rattle.trace_replay_code.proofs.Laying.{lays-none, lays-long, lays-then}
@@ -94,7 +93,7 @@ module _ {numbers trace : List ℕ} {writes : Bool} {old : List ℕ} {before ses
 
     -- no room for the line
     pub playing-full : {why : Refusal} → view_in before ≡ fresh_view → length new - end < size → RefusalMade no_room why
-        → Plays trace numbers writes old new (replayed.Refused why)
+        → Plays trace numbers writes old new (Err why)
     unfolding replay
     playing-full {why} view short is =
         let made_of = replay numbers trace in
@@ -130,7 +129,7 @@ played-all numbers trace at view end =
 module _ {numbers trace : List ℕ} {writes : Bool} {old : List ℕ} {before session : Lent} {at end : ℕ} {new text : List ℕ}
     (p : Playing numbers trace writes old before session at end new text) where
   pub playing-done : view_in before ≡ fresh_view → length trace ≤ at
-      → Plays trace numbers writes old new (replayed.Done session.counts end)
+      → Plays trace numbers writes old new (Ok (record { counts = session.counts; size = end }))
   unfolding replay view_in
   playing-done view past =
       let made = replay numbers trace in

@@ -9,13 +9,13 @@ use native.Mathlib.Omega.{arith}
 use Rattle.length.proofs.Laws.{rest_of}
 use Rattle.session.specs.View.{View}
 use Rattle.session_held.specs.Table.{Lent, view_in}
-use Rattle.line.specs.Lines.{Made, silent, step, ◌then◌, lines_from}
+use Rattle.line.specs.Lines.{step, ◌then◌, lines_from}
 use Rattle.line.specs.Promise.{Does, Able, step_limit}
 use Rattle.line.specs.FeedPromise.{Found}
 use Rattle.line.proofs.Laws.{appends-none}
 use Rattle.trace_replay.specs.Replay.{dropped, replay_step, replay_steps}
 use Rattle.trace_replay.proofs.Laws.{lines_none, lines-first, lines-last, step-dropped, step_left}
-use Rattle.trace_replay_code.specs.Inner.{played_from, TakesTraceLine}
+use Rattle.trace_replay_code.specs.Inner.{TakesTraceLine}
 
 -- ---- a line
 module _ (numbers line : List ℕ) {told : Bool} (is : told ≡ dropped numbers line) where

@@ -1,6 +1,7 @@
 -- The contracts of this crate's inner functions (rules 21.1 to 21.6). Definitions only.
-use Rattle.std.specs.Prelude.{ℕ, ◌+◌, ◌≤◌, ◌<◌, ◌≡◌, Bool, true, false, List, [], ◌++◌, length, drop}
-use Rattle.length.specs.Answers.{done, refused}
+use Rattle.std.specs.Prelude.{ℕ, ◌+◌, ◌≤◌, ◌<◌, ◌≡◌, Bool, true, false, List, [], ◌++◌, length, drop, Option, Some, Result}
+use Rattle.length.specs.Answers.{done}
+use Rattle.length.specs.declared.Refusal.{Refusal}
 use Rattle.session.specs.View.{View}
 use Rattle.session_held.specs.Table.{Lent, view_in}
 use Rattle.line.specs.Lines.{Made, ◌then◌, lines_from}
@@ -8,12 +9,10 @@ use Rattle.line.specs.Promise.{Appends, Does}
 use Rattle.trace_replay.specs.Replay.{number_in, replay_steps, replay}
 use Rattle.trace_replay.specs.Promise.{replayed_outcome, fitted_text, replay_answer}
 use Rattle.trace_replay.specs.declared.Replayed.{Replayed}
-use Rattle.trace_replay_code.specs.declared.dropping.Front.{Front}
-use Rattle.trace_replay_code.specs.declared.dropping.Front.TheVariants as front
 
 -- what the front of a line gives: if the line holds a datagram, the datagram's number (rule 4.1)
-pub record FrontTold (line : List ℕ) (r : Front) : Type 0 where
-  pub told : (number : ℕ) → number_in line ≡ done number → r ≡ front.Number number
+pub record FrontTold (line : List ℕ) (r : Option ℕ) : Type 0 where
+  pub told : (number : ℕ) → number_in line ≡ done number → r ≡ Some number
 
 -- the replay of a trace from a place on
 abbrev pub played_from : List ℕ → List ℕ → ℕ → View → Made
@@ -39,7 +38,7 @@ kept_aside = 131072
 
 -- all lines are played, and written to the caller's buffer if `writes` is true. The answer is the replay's; after a refusal the buffer may
 -- be overwritten, and `play_aside` restores it
-pub record Plays (trace numbers : List ℕ) (writes : Bool) (old new : List ℕ) (r : Replayed) : Type 0 where
+pub record Plays (trace numbers : List ℕ) (writes : Bool) (old new : List ℕ) (r : Result Replayed Refusal) : Type 0 where
   pub answer : replayed_outcome r ≡ replay_answer (replay numbers trace) (fitted_text (replay numbers trace) old)
   pub written : writes ≡ true → length (replay numbers trace).text ≤ length old
       → new ≡ (replay numbers trace).text ++ drop (length (replay numbers trace).text) old

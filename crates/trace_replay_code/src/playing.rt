@@ -10,7 +10,7 @@ ghost use Rattle.trace_replay_code.specs.Inner.{TakesTraceLine, Lays, Plays};
 
 use crate::dropping::is_dropped;
 use datagram_writer::put_octets;
-use length::Refusal;
+use length::{Reason, Refusal};
 use line::{Line, Stepped};
 use line_code::{find_feed, step};
 use session_held::{Counts, Session};
@@ -74,24 +74,12 @@ fn take_line(
     let rest = &trace[at..];
     let stop = find_feed(rest);
     let made = replay_line(base, counts, t, o, g, numbers, &rest[..stop], text, 0);
-    let after = made.base;
-    let moves = made.counts;
-    let size = made.end;
     let end = at + stop;
-    if stop < rest.len() {
-        let next = end + 1;
-        return Taken {
-            base: after,
-            counts: moves,
-            size,
-            next,
-        };
-    }
     Taken {
-        base: after,
-        counts: moves,
-        size,
-        next: end,
+        base: made.base,
+        counts: made.counts,
+        size: made.end,
+        next: if stop < rest.len() { end + 1 } else { end },
     }
 }
 
@@ -101,10 +89,10 @@ fn lay(writes: bool, text: &[u8], out: &mut [u8], at: usize) -> usize
     ensures { Lays writes text.now out.old at out.new result }
 {
     if writes {
-        let size = put_octets(text, &mut out[at..]);
-        return at + size;
+        at + put_octets(text, &mut out[at..])
+    } else {
+        at + text.len()
     }
-    at + text.len()
 }
 
 // Plays all lines of the trace, from a fresh session on; 13 as soon as their text no longer fits the caller's buffer (rule 21.6).
@@ -118,7 +106,7 @@ pub fn play(
     trace: &[u8],
     out: &mut [u8],
     writes: bool,
-) -> Replayed
+) -> Result<Replayed, Refusal>
     requires in_ranges { InRanges (lent base counts t.old o.old g.old) }
     requires g_value { view_in (lent base counts t.old o.old g.old) ≡ fresh_view }
     ensures { Plays trace.now numbers.now writes out.old out.new result }
@@ -128,20 +116,20 @@ pub fn play(
     let mut moves = counts;
     let mut at = 0;
     let mut end = 0;
+    // The place moves past the line that was taken.
     while at < trace.len() {
         let taken = take_line(now, moves, t, o, g, numbers, trace, at, &mut text);
         now = taken.base;
-        let moved = taken.counts;
-        moves = moved;
+        moves = taken.counts;
         at = taken.next;
         let size = taken.size;
         if out.len() - end < size {
-            return Replayed::Refused(Refusal::new(Refusal::NO_ROOM));
+            return Err(Refusal::new(Reason::NoRoom));
         }
         end = lay(writes, &text[..size], out, end);
     }
-    Replayed::Done {
+    Ok(Replayed {
         counts: moves,
         size: end,
-    }
+    })
 }

@@ -7,6 +7,7 @@ ghost use Rattle.trace_replay_code.specs.Inner.{kept_aside, Plays};
 
 use crate::playing::play;
 use datagram_writer::put_octets;
+use length::Refusal;
 use session_held::Session;
 use trace_replay::Replayed;
 
@@ -14,21 +15,21 @@ use trace_replay::Replayed;
 const KEPT: usize = 131072;
 
 // Plays the trace from a fresh session on, and writes to the caller's buffer if `writes` is set.
-fn play_fresh(numbers: &[u16], trace: &[u8], out: &mut [u8], writes: bool) -> Replayed
+fn play_fresh(
+    numbers: &[u16],
+    trace: &[u8],
+    out: &mut [u8],
+    writes: bool,
+) -> Result<Replayed, Refusal>
     ensures { Plays trace.now numbers.now writes out.old out.new result }
 {
-    let session = Session::fresh();
-    let base = session.base;
-    let counts = session.counts;
-    let mut table = session.table;
-    let mut octets = session.octets;
-    let mut messages = session.messages;
+    let mut session = Session::fresh();
     play(
-        base,
-        counts,
-        &mut table,
-        &mut octets,
-        &mut messages,
+        session.base,
+        session.counts,
+        &mut session.table,
+        &mut session.octets,
+        &mut session.messages,
         numbers,
         trace,
         out,
@@ -37,36 +38,30 @@ fn play_fresh(numbers: &[u16], trace: &[u8], out: &mut [u8], writes: bool) -> Re
 }
 
 // Plays the trace with the caller's buffer saved, and restores it after a refusal.
-fn play_aside(numbers: &[u16], trace: &[u8], out: &mut [u8]) -> Replayed
+fn play_aside(numbers: &[u16], trace: &[u8], out: &mut [u8]) -> Result<Replayed, Refusal>
     requires { length out.old ≤ kept_aside }
     ensures { Replays trace.now numbers.now out.old out.new result }
 {
     let mut aside = [0u8; KEPT];
     let count = put_octets(out, &mut aside);
     let answer = play_fresh(numbers, trace, out, true);
-    match answer {
-        Replayed::Done { counts: _, size: _ } => answer,
-        Replayed::Refused(_) => {
-            put_octets(&aside[..count], out);
-            answer
-        }
+    if answer.is_err() {
+        put_octets(&aside[..count], out);
     }
+    answer
 }
 
 // Plays the trace once without writing, and again with writing if the text fits.
-fn play_measured(numbers: &[u16], trace: &[u8], out: &mut [u8]) -> Replayed
+fn play_measured(numbers: &[u16], trace: &[u8], out: &mut [u8]) -> Result<Replayed, Refusal>
     ensures { Replays trace.now numbers.now out.old out.new result }
 {
-    let first = play_fresh(numbers, trace, out, false);
-    match first {
-        Replayed::Done { counts: _, size: _ } => play_fresh(numbers, trace, out, true),
-        Replayed::Refused(_) => first,
-    }
+    play_fresh(numbers, trace, out, false)?;
+    play_fresh(numbers, trace, out, true)
 }
 
 // Gives the trace, without the lines whose datagrams have a listed number, to a fresh session, and writes the program's lines to the front
 // of the caller's buffer (rules 21.1, 21.2 and 21.6).
-pub fn replay(trace: &[u8], numbers: &[u16], out: &mut [u8]) -> Replayed
+pub fn replay(trace: &[u8], numbers: &[u16], out: &mut [u8]) -> Result<Replayed, Refusal>
     ensures { Replays trace.now numbers.now out.old out.new result }
 {
     if out.len() <= KEPT {
@@ -74,7 +69,7 @@ pub fn replay(trace: &[u8], numbers: &[u16], out: &mut [u8]) -> Replayed
     }
     let first = play_aside(numbers, trace, &mut out[..KEPT]);
     match first {
-        Replayed::Done { counts: _, size: _ } => first,
-        Replayed::Refused(_) => play_measured(numbers, trace, out),
+        Ok(_) => first,
+        Err(_) => play_measured(numbers, trace, out),
     }
 }

@@ -1,7 +1,7 @@
 -- What the datagram reader refuses, and with which number (rule 4.15), stated without reading the octets in order. The octets are right
 -- up to the first wrong item; what is wrong with that item decides the number, and where it begins is the place (rule 2.27). `is_datagram`
 -- of Demand1 says that a datagram of these items is what the datagram writer writes. Statements only.
-use Rattle.std.specs.Prelude.{ℕ, ◌%◌, ◌≤◌, ◌<◌, ◌≡◌, ◌↔◌, ◌⊎◌, List, [], ◌∷◌, ◌++◌, length}
+use Rattle.std.specs.Prelude.{ℕ, ◌%◌, ◌≤◌, ◌<◌, ◌≡◌, ◌↔◌, ◌⊎◌, List, [], ◌∷◌, ◌++◌, length, Result}
 use Rattle.std.proofs.Math.Option.{Option, none, some}
 use Rattle.length.specs.Refusals.{ends_early, too_long, bad_form, outside_sizes, spare_bit, left_over}
 use Rattle.length.specs.Answers.{refused}
@@ -12,12 +12,13 @@ use Rattle.datagram.specs.Sizes.{datagram_limit}
 use Rattle.datagram.specs.Promise.{DatagramReads, read_outcome}
 use Rattle.datagram.specs.declared.reader.DatagramRead.{DatagramRead}
 use Rattle.length.specs.Tables.{refusal_in}
+use Rattle.length.specs.declared.Reason.{Reason}
 use Rattle.demands.specs.Demand1.DatagramItems.{Item, Form, many, sized, plain, flag, nothing, form_of, form_due, Due, WholeDatagram}
 
 -- ---- the first wrong item
 
--- an item of this form is due, these octets come instead, and they are refused with this number
-pub data Wrong : Form → List ℕ → ℕ → Type 0 where
+-- an item of this form is due, these octets come instead, and they are refused for this reason
+pub data Wrong : Form → List ℕ → Reason → Type 0 where
   -- 1: the input ends inside an item or before one that must come; an empty input too (rules 2.1 and 3.5)
   few_octets : {n : ℕ} {rest : List ℕ} → length rest < n → Wrong (many n) rest ends_early
   no_size : {least most : ℕ} → Wrong (sized least most) [] ends_early
@@ -37,8 +38,8 @@ pub data Wrong : Form → List ℕ → ℕ → Type 0 where
   -- 6: octets are left over (rule 4.7)
   more_octets : {first : ℕ} {rest : List ℕ} → Wrong nothing (first ∷ rest) left_over
 
--- right items, then one that is refused with this number
-pub record FirstWrong (octets : List ℕ) (n : ℕ) : Type 0 where
+-- right items, then one that is refused for this reason
+pub record FirstWrong (octets : List ℕ) (n : Reason) : Type 0 where
   pub before : List ℕ
   pub rest : List ℕ
   pub items : List Item
@@ -80,13 +81,13 @@ pub record CutOver (octets : List ℕ) : Type 0 where
 -- ---- the datagram reader
 
 -- its refusal of these octets
-pub record RefusalOf (octets : List ℕ) (answer : Option ℕ) : Type 0 where
+pub record RefusalOf (octets : List ℕ) (answer : Option Reason) : Type 0 where
   -- 2 exactly if they are over the limit (rule 2.2)
   pub over : (answer ≡ some too_long) ↔ (datagram_limit < length octets)
   -- not refused exactly if they are a datagram
   pub whole : (answer ≡ none) ↔ WholeDatagram octets
-  -- 1, 3, 4, 5 or 6 exactly if that is the number of the first wrong item (rule 4.15)
-  pub first_wrong : (n : ℕ) → length octets ≤ datagram_limit → (answer ≡ some n) ↔ FirstWrong octets n
+  -- 1, 3, 4, 5 or 6 exactly if that is the reason of the first wrong item (rule 4.15)
+  pub first_wrong : (n : Reason) → length octets ≤ datagram_limit → (answer ≡ some n) ↔ FirstWrong octets n
   -- 6 exactly if they are a datagram with octets behind it (rule 4.7)
   pub followed : length octets ≤ datagram_limit → (answer ≡ some left_over) ↔ Followed octets
   -- 1 exactly if they are a front of a datagram, or end inside a length or count that no second octet would bring within its sizes (rules
@@ -98,7 +99,7 @@ pub record PlacedIn (octets : List ℕ) (why : Refusal) : Type 0 where
   -- 2 is not met in reading order, so its place is 0 (rule 2.30)
   pub over : datagram_limit < length octets → why.place ≡ 0
   -- the place is the count of octets before the first wrong item
-  pub item : length octets ≤ datagram_limit → (w : FirstWrong octets why.number) → why.place ≡ length w.before
+  pub item : length octets ≤ datagram_limit → (w : FirstWrong octets why.reason) → why.place ≡ length w.before
   -- four hexadecimal digits are enough to write it (rule 18.6)
   pub few : why.place ≤ datagram_limit
 
@@ -109,21 +110,22 @@ pub record BeginsDatagram (input : List ℕ) : Type 0 where
   pub whole : WholeDatagram (input ++ more)
 
 pub record DatagramRefusals : Type 0 where
-  pub refusal : {octets : List ℕ} {r : DatagramRead} → Octets octets → DatagramReads octets r → RefusalOf octets (refusal_in (read_outcome r))
+  pub refusal : {octets : List ℕ} {r : Result DatagramRead Refusal} → Octets octets → DatagramReads octets r
+      → RefusalOf octets (refusal_in (read_outcome r))
   -- the place of the refused item; and some datagram begins with what is before it
-  pub placed : {octets : List ℕ} {r : DatagramRead} {why : Refusal} → Octets octets → DatagramReads octets r
+  pub placed : {octets : List ℕ} {r : Result DatagramRead Refusal} {why : Refusal} → Octets octets → DatagramReads octets r
       → read_outcome r ≡ refused why → PlacedIn octets why
-  pub begun : {octets : List ℕ} {n : ℕ} (w : FirstWrong octets n) → BeginsDatagram w.before
+  pub begun : {octets : List ℕ} {n : Reason} (w : FirstWrong octets n) → BeginsDatagram w.before
   -- if octets are a datagram, every proper front of them is refused with 1
-  pub front : (octets more : List ℕ) (first : ℕ) {r q : DatagramRead} → Octets (octets ++ (first ∷ more))
+  pub front : (octets more : List ℕ) (first : ℕ) {r q : Result DatagramRead Refusal} → Octets (octets ++ (first ∷ more))
       → DatagramReads (octets ++ (first ∷ more)) q → refusal_in (read_outcome q) ≡ none
       → DatagramReads octets r → refusal_in (read_outcome r) ≡ some ends_early
-  -- more octets can only help against 1: octets refused with another number are also refused with any octets behind them, ..
-  pub never : (octets more : List ℕ) {r q : DatagramRead} {n : ℕ} → Octets (octets ++ more)
+  -- more octets can only help against 1: octets refused for another reason are also refused with any octets behind them, ..
+  pub never : (octets more : List ℕ) {r q : Result DatagramRead Refusal} {n : Reason} → Octets (octets ++ more)
       → DatagramReads octets r → refusal_in (read_outcome r) ≡ some n → (n ≡ ends_early → ⊥)
       → DatagramReads (octets ++ more) q → refusal_in (read_outcome q) ≡ none → ⊥
-  -- .. and with the same number, if they are still within the limit
-  pub stays : (octets more : List ℕ) {r q : DatagramRead} {n : ℕ} → Octets (octets ++ more)
+  -- .. and for the same reason, if they are still within the limit
+  pub stays : (octets more : List ℕ) {r q : Result DatagramRead Refusal} {n : Reason} → Octets (octets ++ more)
       → DatagramReads octets r → refusal_in (read_outcome r) ≡ some n → (n ≡ ends_early → ⊥) → length (octets ++ more) ≤ datagram_limit
       → DatagramReads (octets ++ more) q → refusal_in (read_outcome q) ≡ some n
   -- a front of a datagram never ends inside such a length or count; but some octets do, as with `BF` for the length of the newest packet

@@ -7,16 +7,18 @@
 -- order what they do not refuse, and `datagram_refusals` and `packet_refusals` what they do, and at which place. The places of the other
 -- calls are in `places`. The refusals of the calls on images are in Handover, of a joiner in `frame` (`field_rows`), and of replay and
 -- compare in the claims of their crates. Statements only.
-use Rattle.std.specs.Prelude.{ℕ, ◌≤◌, ◌≡◌, ◌↔◌, Bool, true, false, cond, List, ◌++◌, length, replicate}
+use Rattle.std.specs.Prelude.{ℕ, ◌≤◌, ◌≡◌, ◌↔◌, Bool, true, false, cond, List, ◌++◌, length, replicate, Result}
+use Rattle.session_release.specs.declared.Released.{Released}
 use Rattle.std.proofs.Math.Option.{none, some}
+use Rattle.length.specs.declared.Reason.{Reason}
+use Rattle.length.specs.declared.Refusal.{Refusal}
 use Rattle.length.specs.Refusals.{outside_ranges, no_solution}
-use Rattle.length.specs.Answers.{Answer, done, length_outcome, written_outcome}
+use Rattle.length.specs.Answers.{done, length_outcome, written_outcome}
 use Rattle.length.specs.Tables.{first, refusal_in, place_in, room_row}
 use Rattle.length.specs.Length.{length_octets, length_writer_rows, length_to_write}
 use Rattle.length.specs.Promise.{LengthRead, WithinRead, Puts}
 use Rattle.length.specs.Claims.{Octets}
 use Rattle.length.specs.declared.Length.{Length}
-use Rattle.length.specs.declared.Written.{Written}
 use Rattle.datagram.specs.Sizes.{packet_limit}
 use Rattle.datagram.specs.Read.{read_datagram}
 use Rattle.datagram.specs.Write.{carried_of, datagram_octets, datagram_writer_rows, datagram_to_write}
@@ -38,12 +40,10 @@ use Rattle.session_offer.specs.Outcome.{offered_outcome}
 use Rattle.session_held.specs.Laid.{session_in_ranges}
 use Rattle.session_held.specs.declared.Session.{Session}
 use Rattle.session_calls.specs.Receiver.{OfferOwes, ReleaseOwes}
-use Rattle.session_calls.specs.declared.receiver.AfterOffer.{AfterOffer}
-use Rattle.session_calls.specs.declared.receiver.AfterRelease.{AfterRelease}
+use Rattle.session_calls.specs.declared.Returned.{Returned}
 use Rattle.solve_code.specs.Outcome.{solved_outcome}
 use Rattle.session_calls.specs.Solver.{SolveOwes}
 use Rattle.session_calls.specs.SolverClaims.{HasSolution, HasNone}
-use Rattle.session_calls.specs.declared.solver.AfterSolve.{AfterSolve}
 use Rattle.sender.specs.Send.{carried_next}
 use Rattle.sender.specs.Sender.{sending_of}
 use Rattle.sender.specs.Promise.{sender_rows, Sends}
@@ -89,54 +89,57 @@ pub record IsRepaired (edition : Edition) (octets : List ℕ) : Type 0 where
 
 pub record Readers : Type 0 where
   -- a length: 3 or 1 for its form (rule 3.6)
-  pub length : {octets : List ℕ} {r : Length} → LengthRead octets r → refusal_in (length_outcome r) ≡ first (length_rows octets)
+  pub length : {octets : List ℕ} {r : Result Length Refusal} → LengthRead octets r
+      → refusal_in (length_outcome r) ≡ first (length_rows octets)
   -- a length from least to most: then 4 (rule 3.6)
-  pub length_within : {least most : ℕ} {octets : List ℕ} {r : Length} → WithinRead least most octets r
+  pub length_within : {least most : ℕ} {octets : List ℕ} {r : Result Length Refusal} → WithinRead least most octets r
       → refusal_in (length_outcome r) ≡ first (within_rows least most octets)
   -- a datagram: 2, then reading order (rule 4.15)
-  pub datagram : {octets : List ℕ} {r : DatagramRead} → DatagramReads octets r → refusal_in (read_outcome r) ≡ refusal_in (read_datagram octets)
+  pub datagram : {octets : List ℕ} {r : Result DatagramRead Refusal} → DatagramReads octets r
+      → refusal_in (read_outcome r) ≡ refusal_in (read_datagram octets)
   -- a packet: 15, 4 for the whole packet, then reading order (rule 6.13)
-  pub packet : (octet : ℕ) (ending : Ending) (octets : List ℕ) {r : PacketRead} → ReadBy octet ending octets r
+  pub packet : (octet : ℕ) (ending : Ending) (octets : List ℕ) {r : Result PacketRead Refusal} → ReadBy octet ending octets r
       → refusal_in (packet_outcome r) ≡ refusal_in (by_edition octet (λ edition. read_packet edition ending octets))
   -- octets are read as a datagram exactly if they are one, and as a received packet of the named edition exactly if they are one; a
   -- repaired packet may also go on with zeros (rules 6.11 and 6.12). Every slice of octets has values below 256 (`Octets`)
-  pub is_datagram : {octets : List ℕ} {r : DatagramRead} → Octets octets → DatagramReads octets r
+  pub is_datagram : {octets : List ℕ} {r : Result DatagramRead Refusal} → Octets octets → DatagramReads octets r
       → (refusal_in (read_outcome r) ≡ none) ↔ IsDatagram octets
-  pub is_packet : (octet : ℕ) (named : Named) → Names octet named → (octets : List ℕ) {r : PacketRead} → Octets octets
+  pub is_packet : (octet : ℕ) (named : Named) → Names octet named → (octets : List ℕ) {r : Result PacketRead Refusal} → Octets octets
       → ReadBy octet Whole octets r
       → (refusal_in (packet_outcome r) ≡ none) ↔ IsPacket (edition_of named) octets
-  pub is_repaired : (octet : ℕ) (named : Named) → Names octet named → (octets : List ℕ) {r : PacketRead} → Octets octets
+  pub is_repaired : (octet : ℕ) (named : Named) → Names octet named → (octets : List ℕ) {r : Result PacketRead Refusal} → Octets octets
       → ReadBy octet Repaired octets r → (refusal_in (packet_outcome r) ≡ none) ↔ IsRepaired (edition_of named) octets
-  -- which packets are refused with which number, in the edition that the octet names
+  -- which packets are refused for which reason, in the edition that the octet names
   pub packet_refusals : (octet : ℕ) (named : Named) → Names octet named → PacketRefusals octet named
   -- 15 for another edition, first, by the packet readers and the packet writer (rule 7.2)
   pub another_edition : AnotherEdition
-  -- which datagrams are refused with which number
+  -- which datagrams are refused for which reason
   pub datagram_refusals : DatagramRefusals
 
 -- ---- writers
 -- refused, a call with this promise leaves the caller's buffer unchanged (rule 2.25)
-abbrev pub Unchanged : (List ℕ → List ℕ → Written → Type 0) → Type 0
-Unchanged promise = (old new : List ℕ) (r : Written) (n : ℕ) → promise old new r → refusal_in (written_outcome r) ≡ some n → new ≡ old
+abbrev pub Unchanged : (List ℕ → List ℕ → Result ℕ Refusal → Type 0) → Type 0
+Unchanged promise = (old new : List ℕ) (r : Result ℕ Refusal) (n : Reason)
+    → promise old new r → refusal_in (written_outcome r) ≡ some n → new ≡ old
 
 pub record Writers : Type 0 where
   -- the length writer: 4, 13 (rule 3.8)
-  pub length : (n : ℕ) {old new : List ℕ} {r : Written} → Puts (length_to_write n) old new r
+  pub length : (n : ℕ) {old new : List ℕ} {r : Result ℕ Refusal} → Puts (length_to_write n) old new r
       → refusal_in (written_outcome r) ≡ first (length_writer_rows n ++ room_row (length_octets n) old)
   -- the datagram writer: 4, 15, 4, 13 (rule 4.17)
-  pub datagram : (number : ℕ) (packet : List ℕ) (kind : Kind) (lengths run : List ℕ) {old new : List ℕ} {r : Written}
+  pub datagram : (number : ℕ) (packet : List ℕ) (kind : Kind) (lengths run : List ℕ) {old new : List ℕ} {r : Result ℕ Refusal}
       → DatagramWritten number packet kind lengths run old new r
       → refusal_in (written_outcome r)
       ≡ first (datagram_writer_rows packet kind lengths run ++ room_row (datagram_octets (carried_of number packet kind lengths run)) old)
   -- the packet writer, in the edition that the octet names: 4, 15, 12, 14, 4, 13 (rule 6.20)
   pub packet : (octet : ℕ) (named : Named) → Names octet named → (kind : packets.PacketKind) (value : ℕ) (types lengths octets : List ℕ)
-      {old new : List ℕ} {r : Written} → PacketWritten octet kind value types lengths octets old new r
+      {old new : List ℕ} {r : Result ℕ Refusal} → PacketWritten octet kind value types lengths octets old new r
       → refusal_in (written_outcome r)
       ≡ first
       (packet_writer_rows (edition_of named) kind value types lengths octets
       ++ room_row (packet_octets (edition_of named) kind value types lengths octets) old)
   -- the octets of a line of hexadecimal: 2 for a line that is too long, 15 for one without paired digits, 13 (rules 18.10 and 18.11)
-  pub line : (line : List ℕ) {old new : List ℕ} {r : Written} → Puts (line_octets line) old new r
+  pub line : (line : List ℕ) {old new : List ℕ} {r : Result ℕ Refusal} → Puts (line_octets line) old new r
       → refusal_in (written_outcome r) ≡ first (line_rows line ++ room_row (octets_in line) old)
   -- a refused write leaves the caller's buffer unchanged (rule 28.2)
   pub length_unchanged : (n : ℕ) → Unchanged (Puts (length_to_write n))
@@ -149,32 +152,33 @@ pub record Writers : Type 0 where
 -- ---- the receiving session (rules 10.5 and 12.9)
 pub record Receiving : Type 0 where
   -- offer: 17, 2, then reading order, then 8 or 9, then 7 (rule 10.5); refused, it returns the session unchanged (rule 28.2)
-  pub offer : {s : Session} {octets : List ℕ} {r : AfterOffer} → OfferOwes s octets r
+  pub offer : {s : Session} {octets : List ℕ} {r : Returned (Unit {0})} → OfferOwes s octets r
       → refusal_in (offered_outcome r.answer) ≡ first (offer_rows octets s)
-  pub offer_unchanged : {s : Session} {octets : List ℕ} {r : AfterOffer} {n : ℕ} → OfferOwes s octets r
+  pub offer_unchanged : {s : Session} {octets : List ℕ} {r : Returned (Unit {0})} {n : Reason} → OfferOwes s octets r
       → refusal_in (offered_outcome r.answer) ≡ some n → r.session ≡ s
   -- release: 17, 16, 10, 13 (rule 12.9); refused, it returns the session unchanged and does not touch the buffer (rule 28.2)
-  pub release : {s : Session} {leave : Bool} {old new : List ℕ} {r : AfterRelease} → ReleaseOwes s leave old new r
+  pub release : {s : Session} {leave : Bool} {old new : List ℕ} {r : Returned Released} → ReleaseOwes s leave old new r
       → refusal_in (released_outcome r.answer) ≡ first (release_rows leave old s)
-  pub release_unchanged : {s : Session} {leave : Bool} {old new : List ℕ} {r : AfterRelease} {n : ℕ} → ReleaseOwes s leave old new r
+  pub release_unchanged : {s : Session} {leave : Bool} {old new : List ℕ} {r : Returned Released} {n : Reason}
+      → ReleaseOwes s leave old new r
       → refusal_in (released_outcome r.answer) ≡ some n → (r.session ≡ s) × (new ≡ old)
 
 -- ---- solve (rules 14.6 and 14.7). Whether something satisfies the equations is no test with a row in a table, so each answer has its
 -- condition. That octets are enough to ask for is in `session_calls` (`SolveOctets`)
 pub record SolvingCalls : Type 0 where
   -- 17 exactly outside the ranges
-  pub outside : {s : Session} {r : AfterSolve} → SolveOwes s r
+  pub outside : {s : Session} {r : Returned (Unit {0})} → SolveOwes s r
       → (refusal_in (solved_outcome r.answer) ≡ some outside_ranges) ↔ (session_in_ranges s ≡ false)
   -- 23 exactly within them and if nothing satisfies the equations
-  pub unsolvable : {s : Session} {r : AfterSolve} → SolveOwes s r
+  pub unsolvable : {s : Session} {r : Returned (Unit {0})} → SolveOwes s r
       → (refusal_in (solved_outcome r.answer) ≡ some no_solution) ↔ ((session_in_ranges s ≡ true) × HasNone s)
   -- no refusal exactly within them and if something does
-  pub filled : {s : Session} {r : AfterSolve} → SolveOwes s r
+  pub filled : {s : Session} {r : Returned (Unit {0})} → SolveOwes s r
       → (refusal_in (solved_outcome r.answer) ≡ none) ↔ ((session_in_ranges s ≡ true) × HasSolution s)
   -- refused, it returns the session unchanged (rule 28.2), and its place is 0 (rule 2.30)
-  pub unchanged : {s : Session} {r : AfterSolve} {n : ℕ} → SolveOwes s r → refusal_in (solved_outcome r.answer) ≡ some n
+  pub unchanged : {s : Session} {r : Returned (Unit {0})} {n : Reason} → SolveOwes s r → refusal_in (solved_outcome r.answer) ≡ some n
       → r.session ≡ s
-  pub place : {s : Session} {r : AfterSolve} → SolveOwes s r → place_in (solved_outcome r.answer) ≡ 0
+  pub place : {s : Session} {r : Returned (Unit {0})} → SolveOwes s r → place_in (solved_outcome r.answer) ≡ 0
 
 -- ---- the sending session (rules 15.8 and 15.11)
 pub record SendingCalls : Type 0 where
@@ -182,24 +186,27 @@ pub record SendingCalls : Type 0 where
   pub send : {s : Sender} {settings : Settings} {packet old new : List ℕ} {r : Sent} → Sends s settings packet old new r
       → refusal_in (written_outcome r.answer)
       ≡ first (sender_rows s settings packet ++ room_row (datagram_octets (carried_next settings packet (sending_of s))) old)
-  pub send_unchanged : {s : Sender} {settings : Settings} {packet old new : List ℕ} {r : Sent} {n : ℕ} → Sends s settings packet old new r
+  pub send_unchanged : {s : Sender} {settings : Settings} {packet old new : List ℕ} {r : Sent} {n : Reason}
+      → Sends s settings packet old new r
       → refusal_in (written_outcome r.answer) ≡ some n → (r.sender ≡ s) × (new ≡ old)
 
 -- ---- places
 -- refused, a call with this promise has place 0 (rule 2.30)
-abbrev pub Unplaced : (List ℕ → List ℕ → Written → Type 0) → Type 0
-Unplaced promise = (old new : List ℕ) (r : Written) → promise old new r → place_in (written_outcome r) ≡ 0
+abbrev pub Unplaced : (List ℕ → List ℕ → Result ℕ Refusal → Type 0) → Type 0
+Unplaced promise = (old new : List ℕ) (r : Result ℕ Refusal) → promise old new r → place_in (written_outcome r) ≡ 0
 
 pub record Places : Type 0 where
   -- the length reader's place: a length is read at the very front (rule 3.9)
-  pub length : {octets : List ℕ} {r : Length} → LengthRead octets r → place_in (length_outcome r) ≡ 0
-  pub length_within : {least most : ℕ} {octets : List ℕ} {r : Length} → WithinRead least most octets r → place_in (length_outcome r) ≡ 0
+  pub length : {octets : List ℕ} {r : Result Length Refusal} → LengthRead octets r → place_in (length_outcome r) ≡ 0
+  pub length_within : {least most : ℕ} {octets : List ℕ} {r : Result Length Refusal} → WithinRead least most octets r
+      → place_in (length_outcome r) ≡ 0
   -- offer passes on the datagram reader's place; its other refusals, 17 before the reading and 8, 9 and 7 after it, have place 0 (rule
   -- 2.30)
-  pub offer : {s : Session} {octets : List ℕ} {r : AfterOffer} {q : DatagramRead} → OfferOwes s octets r → DatagramReads octets q
+  pub offer : {s : Session} {octets : List ℕ} {r : Returned (Unit {0})} {q : Result DatagramRead Refusal} → OfferOwes s octets r
+      → DatagramReads octets q
       → place_in (offered_outcome r.answer) ≡ cond (session_in_ranges s) (place_in (read_outcome q)) 0
   -- refusals that are not met while reading have place 0 (rule 2.30)
-  pub release : {s : Session} {leave : Bool} {old new : List ℕ} {r : AfterRelease} → ReleaseOwes s leave old new r
+  pub release : {s : Session} {leave : Bool} {old new : List ℕ} {r : Returned Released} → ReleaseOwes s leave old new r
       → place_in (released_outcome r.answer) ≡ 0
   pub length_writer : (n : ℕ) → Unplaced (Puts (length_to_write n))
   pub datagram_writer : (number : ℕ) (packet : List ℕ) (kind : Kind) (lengths run : List ℕ)
@@ -220,8 +227,9 @@ pub record Demand1 : Type 0 where
   pub readers : Readers
   pub writers : Writers
   pub receiving : Receiving
-  -- an offer to a session within its ranges refuses what the datagram reader refuses, with the same number (rule 10.5)
-  pub offer_reads : {s : Session} {octets : List ℕ} {r : AfterOffer} {q : DatagramRead} {n : ℕ} → OfferOwes s octets r
+  -- an offer to a session within its ranges refuses what the datagram reader refuses, for the same reason (rule 10.5)
+  pub offer_reads : {s : Session} {octets : List ℕ} {r : Returned (Unit {0})} {q : Result DatagramRead Refusal} {n : Reason}
+      → OfferOwes s octets r
       → DatagramReads octets q → session_in_ranges s ≡ true → refusal_in (read_outcome q) ≡ some n
       → refusal_in (offered_outcome r.answer) ≡ some n
   pub solving : SolvingCalls

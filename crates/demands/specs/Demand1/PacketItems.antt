@@ -7,6 +7,7 @@ use Rattle.std.proofs.Math.Option.{Option, none}
 use Rattle.length.specs.Refusals.{ends_early, outside_sizes, spare_bit, left_over, not_assigned, wrong_data}
 use Rattle.length.specs.Length.{within}
 use Rattle.length.specs.Tables.{when, first}
+use Rattle.length.specs.declared.Reason.{Reason}
 use Rattle.format.specs.Spelling.{gap}
 use Rattle.format.specs.Places.{Place, bits_at, edge}
 use Rattle.datagram.specs.Sizes.{packet_limit}
@@ -67,11 +68,11 @@ abbrev pub value_ends : Enumerated → List ℕ → Place → Place
 value_ends e octets p = cond (is_added e octets p) (p + 1 + 1 + added_width) (behind_mark e p + e.width)
 
 -- 1: fewer bits are left than the item needs (rule 2.1)
-abbrev pub cut_short : List ℕ → Place → Option ℕ
+abbrev pub cut_short : List ℕ → Place → Option Reason
 cut_short octets behind = when (ltb (8 * length octets) behind) ends_early
 
 -- the table of an added value, from the place behind the extension bit on (rules 7.6 to 7.8), and of any other (rule 6.3)
-abbrev pub added_rows : Enumerated → List ℕ → Place → List (Option ℕ)
+abbrev pub added_rows : Enumerated → List ℕ → Place → List (Option Reason)
 added_rows e octets p =
     when (ltb e.added 1) not_assigned
     ∷ when (bit_set_at octets p) not_assigned
@@ -79,10 +80,10 @@ added_rows e octets p =
     ∷ when (not (ltb (bits_at added_width octets (p + 1)) e.added)) not_assigned
     ∷ []
 
-abbrev pub root_rows : Enumerated → List ℕ → Place → List (Option ℕ)
+abbrev pub root_rows : Enumerated → List ℕ → Place → List (Option Reason)
 root_rows e octets p = cut_short octets (p + e.width) ∷ when (not (ltb (bits_at e.width octets p) e.assigned)) not_assigned ∷ []
 
-unfoldable pub value_rows : Enumerated → List ℕ → Place → List (Option ℕ)
+unfoldable pub value_rows : Enumerated → List ℕ → Place → List (Option Reason)
 value_rows e octets p = cond (is_added e octets p) (added_rows e octets (p + 1)) (root_rows e octets (behind_mark e p))
 
 -- ---- what is at a place
@@ -138,7 +139,7 @@ due_after end octets p = end
 -- ---- what each item is refused for
 -- the table of an item at its place: the first row that applies refuses it. The count of fields has the form of every length; in two
 -- octets it is 128 or more, and so is the first of them. A data length has no form to refuse (rule 6.9)
-unfoldable pub rows : Edition → Ending → Item → List ℕ → Place → List (Option ℕ)
+unfoldable pub rows : Edition → Ending → Item → List ℕ → Place → List (Option Reason)
 rows edition ending first_value octets p = value_rows (first_values edition octets) octets (p + 2)
 -- 14: an indicator never has a data field (rule 6.6)
 rows edition ending fields_allowed octets p = when (not (right_fields (kind_of octets) (has_fields octets))) wrong_data ∷ []
@@ -147,7 +148,8 @@ rows edition ending count_of_fields octets p =
 rows edition ending (header left) octets p =
     value_rows edition.types octets (p + 1) ++ (when (not (data_fits edition octets p)) wrong_data ∷ [])
 rows edition ending (padding next) octets p = when (ltb 0 (bits_at (gap p) octets p)) spare_bit ∷ []
-rows edition ending (data_length left) octets p = cut_short octets (p + 16) ∷ when (ltb packet_limit (data_size octets p)) outside_sizes ∷ []
+rows edition ending (data_length left) octets p =
+    cut_short octets (p + 16) ∷ when (ltb packet_limit (data_size octets p)) outside_sizes ∷ []
 rows edition ending (field_data size left) octets p = cut_short octets (p + 8 * size) ∷ []
 -- 6: nothing follows a received or spare packet, and only zeros follow a repaired one (rules 6.11 and 6.12)
 rows edition ending end octets p = when (not (may_follow ending (octets_from octets p))) left_over ∷ []

@@ -1,9 +1,9 @@
--- What the packet reader refuses in the edition that the caller names, with which number and at which place, as received (`Whole`) and as
--- repaired. It refuses octets with the number of their first wrong item (`first_wrong`, over the tables of PacketItems; rule 6.13), at
--- that item's place (rule 2.27). The other fields say in plain terms what this means for each number. Statements only.
-use Rattle.std.specs.Prelude.{ℕ, ◌+◌, ◌*◌, ◌≤◌, ◌<◌, ◌≡◌, ◌↔◌, ◌≢◌, true, false, List, ◌++◌, length}
+-- What the packet reader refuses in the edition that the caller names, for which reason and at which place, as received (`Whole`) and as
+-- repaired. It refuses octets for the reason of their first wrong item (`first_wrong`, over the tables of PacketItems; rule 6.13), at
+-- that item's place (rule 2.27). The other fields say in plain terms what this means for each reason. Statements only.
+use Rattle.std.specs.Prelude.{Result, ℕ, ◌+◌, ◌*◌, ◌≤◌, ◌<◌, ◌≡◌, ◌↔◌, ◌≢◌, true, false, List, ◌++◌, length}
 use Rattle.std.proofs.Math.Option.{none, some}
-use Rattle.length.specs.Refusals as number
+use Rattle.length.specs.Refusals as reason
 use Rattle.length.specs.Answers.{refused}
 use Rattle.length.specs.declared.Refusal.{Refusal}
 use Rattle.length.specs.Length.{within}
@@ -22,14 +22,15 @@ use Rattle.packet.specs.declared.types.Ending.{Ending}
 use Rattle.packet.specs.declared.types.Ending.TheVariants.{Whole, Repaired}
 use Rattle.packet.specs.declared.types.PacketRead.{PacketRead}
 use Rattle.length.specs.Tables.{first, refusal_in}
+use Rattle.length.specs.declared.Reason.{Reason}
 use Rattle.demands.specs.Demand1.Refusals.{length_rows}
 use Rattle.demands.specs.Demand1.PacketItems.{Item, fields_allowed, count_of_fields, header, padding, data_length, end, Due, Packet, rows}
 use Rattle.demands.specs.Demand1.PacketItems.{octet_of, is_added, behind_mark, value_ends, value_rows, octets_from, octet_here, has_fields}
 use Rattle.demands.specs.Demand1.PacketItems.{first_values}
 use Rattle.demands.specs.Demand1.PacketItems.{data_fits, data_size}
 
--- the first wrong item: its table gives this number
-pub record FirstWrong (edition : Edition) (ending : Ending) (octets : List ℕ) (n : ℕ) : Type 0 where
+-- the first wrong item: its table gives this reason
+pub record FirstWrong (edition : Edition) (ending : Ending) (octets : List ℕ) (n : Reason) : Type 0 where
   pub item : Item
   pub place : Place
   pub due : Due edition octets place item
@@ -84,13 +85,14 @@ pub data NotAssigned (edition : Edition) (octets : List ℕ) : Type 0 where
 pub record BadForm (edition : Edition) (octets : List ℕ) : Type 0 where
   pub place : Place
   pub due : Due edition octets place count_of_fields
-  pub form : first (length_rows (octets_from octets place)) ≡ some number.bad_form
+  pub form : first (length_rows (octets_from octets place)) ≡ some reason.bad_form
 
 -- 4: a count of fields has a right form and is not 1 to 16, or a data length is over the packet limit (rules 6.4 and 6.9)
 pub data OutsideSizes (edition : Edition) (octets : List ℕ) : Type 0 where
   count : (p : Place) → Due edition octets p count_of_fields → first (length_rows (octets_from octets p)) ≡ none
       → within fields_least fields_limit (octet_here octets p) ≡ false → OutsideSizes edition octets
-  long_data : (p : Place) (left : ℕ) → Due edition octets p (data_length left) → p + 16 ≤ 8 * length octets → packet_limit < data_size octets p
+  long_data : (p : Place) (left : ℕ) → Due edition octets p (data_length left) → p + 16 ≤ 8 * length octets
+      → packet_limit < data_size octets p
       → OutsideSizes edition octets
 
 -- 5: a bit set in padding, also in that behind the first value (rule 5.4)
@@ -107,57 +109,64 @@ pub data WrongData (edition : Edition) (octets : List ℕ) : Type 0 where
   field : (p : Place) (left : ℕ) → Due edition octets p (header left) → first (value_rows edition.types octets (p + 1)) ≡ none
       → data_fits edition octets p ≡ false → WrongData edition octets
 
--- whatever the call returned, for at most the packet limit: it refused with this number exactly in this case
-abbrev pub Exactly : ℕ → ℕ → (List ℕ → Type 0) → Type 0
-Exactly octet n Case = (ending : Ending) (octets : List ℕ) (r : PacketRead) → ReadBy octet ending octets r → length octets ≤ packet_limit
+-- whatever the call returned, for at most the packet limit: it refused for this reason exactly in this case
+abbrev pub Exactly : ℕ → Reason → (List ℕ → Type 0) → Type 0
+Exactly octet n Case = (ending : Ending) (octets : List ℕ) (r : Result PacketRead Refusal)
+    → ReadBy octet ending octets r → length octets ≤ packet_limit
     → (refusal_in (packet_outcome r) ≡ some n) ↔ Case octets
 
 -- of an octet that names an edition
 pub record PacketRefusals (octet : ℕ) (named : Named) : Type 0 where
   -- over the packet limit it is 4 (rule 6.13); the fields below are about the other octets
-  pub over_limit : (ending : Ending) (octets : List ℕ) {r : PacketRead} → ReadBy octet ending octets r → packet_limit < length octets
-      → refusal_in (packet_outcome r) ≡ some number.outside_sizes
-  -- then reading order: refused exactly if there is a first wrong item, with its number (rule 6.13)
-  pub first_wrong : (ending : Ending) (octets : List ℕ) {r : PacketRead} (n : ℕ) → ReadBy octet ending octets r → length octets ≤ packet_limit
+  pub over_limit : (ending : Ending) (octets : List ℕ) {r : Result PacketRead Refusal} → ReadBy octet ending octets r
+      → packet_limit < length octets
+      → refusal_in (packet_outcome r) ≡ some reason.outside_sizes
+  -- then reading order: refused exactly if there is a first wrong item, for its reason (rule 6.13)
+  pub first_wrong : (ending : Ending) (octets : List ℕ) {r : Result PacketRead Refusal} (n : Reason) → ReadBy octet ending octets r
+      → length octets ≤ packet_limit
       → (refusal_in (packet_outcome r) ≡ some n) ↔ FirstWrong (edition_of named) ending octets n
   -- the place of the refusal is the octet at which the first wrong item begins, and there is only one such item (rule 2.27); 4 for the
   -- whole packet has place 0 (rule 2.30)
-  pub place : (ending : Ending) (octets : List ℕ) {r : PacketRead} {why : Refusal} {n : ℕ} → ReadBy octet ending octets r
+  pub place : (ending : Ending) (octets : List ℕ) {r : Result PacketRead Refusal} {why : Refusal} {n : Reason}
+      → ReadBy octet ending octets r
       → length octets ≤ packet_limit
       → packet_outcome r ≡ refused why → (w : FirstWrong (edition_of named) ending octets n)
-      → why ≡ number.refusal_at (octet_of w.item w.place) n
-  pub over_place : (ending : Ending) (octets : List ℕ) {r : PacketRead} {why : Refusal} → ReadBy octet ending octets r
+      → why ≡ reason.refusal_at (octet_of w.item w.place) n
+  pub over_place : (ending : Ending) (octets : List ℕ) {r : Result PacketRead Refusal} {why : Refusal} → ReadBy octet ending octets r
       → packet_limit < length octets
       → packet_outcome r ≡ refused why → why.place ≡ 0
   -- not refused exactly if the octets are a packet; as repaired, one with only zeros behind it (rules 6.11 and 6.12). `is_packet` and
   -- `is_repaired` of Demand1 say that these are what the packet writer writes
-  pub received : (octets : List ℕ) {r : PacketRead} → ReadBy octet Whole octets r → length octets ≤ packet_limit
+  pub received : (octets : List ℕ) {r : Result PacketRead Refusal} → ReadBy octet Whole octets r → length octets ≤ packet_limit
       → (refusal_in (packet_outcome r) ≡ none) ↔ Packet (edition_of named) octets
-  pub repaired : (octets : List ℕ) {r : PacketRead} → ReadBy octet Repaired octets r → length octets ≤ packet_limit
+  pub repaired : (octets : List ℕ) {r : Result PacketRead Refusal} → ReadBy octet Repaired octets r → length octets ≤ packet_limit
       → (refusal_in (packet_outcome r) ≡ none) ↔ ((rest : List ℕ) × PacketThen (edition_of named) octets rest × (all_zero rest ≡ true))
   -- 6 exactly if the octets begin with a whole packet and something follows it; as repaired, something that is not all zeros
-  pub left_over : (octets : List ℕ) {r : PacketRead} → ReadBy octet Whole octets r → length octets ≤ packet_limit
-      → (refusal_in (packet_outcome r) ≡ some number.left_over)
+  pub left_over : (octets : List ℕ) {r : Result PacketRead Refusal} → ReadBy octet Whole octets r → length octets ≤ packet_limit
+      → (refusal_in (packet_outcome r) ≡ some reason.left_over)
       ↔ ((rest : List ℕ) × PacketThen (edition_of named) octets rest × (1 ≤ length rest))
-  pub left_over_repaired : (octets : List ℕ) {r : PacketRead} → ReadBy octet Repaired octets r → length octets ≤ packet_limit
-      → (refusal_in (packet_outcome r) ≡ some number.left_over)
+  pub left_over_repaired : (octets : List ℕ) {r : Result PacketRead Refusal} → ReadBy octet Repaired octets r → length octets ≤ packet_limit
+      → (refusal_in (packet_outcome r) ≡ some reason.left_over)
       ↔ ((rest : List ℕ) × PacketThen (edition_of named) octets rest × (all_zero rest ≡ false))
   -- 1, 3, 4, 5, 12 and 14, each exactly in its case; so every proper front of a packet is refused with 1
-  pub ends_early : Exactly octet number.ends_early (EndsEarly (edition_of named))
-  pub bad_form : Exactly octet number.bad_form (BadForm (edition_of named))
-  pub outside_sizes : Exactly octet number.outside_sizes (OutsideSizes (edition_of named))
-  pub spare_bit : Exactly octet number.spare_bit (SpareBit (edition_of named))
-  pub not_assigned : Exactly octet number.not_assigned (NotAssigned (edition_of named))
-  pub wrong_data : Exactly octet number.wrong_data (WrongData (edition_of named))
-  -- more octets can only help against 1: octets refused with another number are also refused with any octets behind them, ..
-  pub never : (ending : Ending) (octets : List ℕ) (more : List ℕ) {r t : PacketRead} {n : ℕ} → ReadBy octet ending octets r
-      → ReadBy octet ending (octets ++ more) t → refusal_in (packet_outcome r) ≡ some n → n ≢ number.ends_early
+  pub ends_early : Exactly octet reason.ends_early (EndsEarly (edition_of named))
+  pub bad_form : Exactly octet reason.bad_form (BadForm (edition_of named))
+  pub outside_sizes : Exactly octet reason.outside_sizes (OutsideSizes (edition_of named))
+  pub spare_bit : Exactly octet reason.spare_bit (SpareBit (edition_of named))
+  pub not_assigned : Exactly octet reason.not_assigned (NotAssigned (edition_of named))
+  pub wrong_data : Exactly octet reason.wrong_data (WrongData (edition_of named))
+  -- more octets can only help against 1: octets refused for another reason are also refused with any octets behind them, ..
+  pub never : (ending : Ending) (octets : List ℕ) (more : List ℕ) {r t : Result PacketRead Refusal} {n : Reason}
+      → ReadBy octet ending octets r
+      → ReadBy octet ending (octets ++ more) t → refusal_in (packet_outcome r) ≡ some n → n ≢ reason.ends_early
       → refusal_in (packet_outcome t) ≡ none → ⊥
-  -- .. and with the same number, up to the packet limit
-  pub stays : (ending : Ending) (octets : List ℕ) (more : List ℕ) {r t : PacketRead} {n : ℕ} → ReadBy octet ending octets r
+  -- .. and for the same reason, up to the packet limit
+  pub stays : (ending : Ending) (octets : List ℕ) (more : List ℕ) {r t : Result PacketRead Refusal} {n : Reason}
+      → ReadBy octet ending octets r
       → ReadBy octet ending (octets ++ more) t → length (octets ++ more) ≤ packet_limit → refusal_in (packet_outcome r) ≡ some n
-      → n ≢ number.ends_early → refusal_in (packet_outcome t) ≡ some n
+      → n ≢ reason.ends_early → refusal_in (packet_outcome t) ≡ some n
   -- read as received and as repaired, the same octets differ only in 6 (rule 6.12)
-  pub either_way : (octets : List ℕ) {r t : PacketRead} {n : ℕ} → ReadBy octet Whole octets r → ReadBy octet Repaired octets t
-      → n ≢ number.left_over
+  pub either_way : (octets : List ℕ) {r t : Result PacketRead Refusal} {n : Reason} → ReadBy octet Whole octets r
+      → ReadBy octet Repaired octets t
+      → n ≢ reason.left_over
       → (refusal_in (packet_outcome r) ≡ some n) ↔ (refusal_in (packet_outcome t) ≡ some n)

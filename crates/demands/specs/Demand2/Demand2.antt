@@ -1,10 +1,10 @@
 -- Demand 2. Reading and writing follow T.38 Annex A of the named edition in the aligned packed encoding (rule 28.3): this is what the
 -- readers and writers promise (LengthRead, DatagramReads, ReadBy, Puts), since their answers are those of the definitions `length_at`,
--- `read_datagram` and `read_packet`, `length_to_write`, `datagram_to_write` and `packet_to_write`. What is written reads back to the same fields,
--- and what is read as received writes back to the same octets (rule 28.4). In a session fresh at its start the known numbers are exactly
--- those reached from arrived, spare and parity octets, and those that solving fixed (rule 28.5). Numbers leave in order, each place once,
--- released or lost, and the counts match the history (rule 28.6). A session saved within its ranges goes on from what it holds, each call
--- as the rules say (rule 28.7). Statements only.
+-- `read_datagram` and `read_packet`, `length_to_write`, `datagram_to_write` and `packet_to_write`. What is written reads back to the same
+-- fields, and what is read as received writes back to the same octets (rule 28.4). In a session fresh at its start the known numbers are
+-- exactly those reached from arrived, spare and parity octets, and those that solving fixed (rule 28.5). Numbers leave in order, each place
+-- once, released or lost, and the counts match the history (rule 28.6). A session saved within its ranges goes on from what it holds, each
+-- call as the rules say (rule 28.7). Statements only.
 use Rattle.std.specs.Prelude.{ℕ, ◌+◌, ◌-◌, ◌%◌, ◌≤◌, ◌<◌, ◌≡◌, ◌↔◌, true, ◌||◌, length, get_or}
 use mathlib.Core.List.{List, [], map, Memᴰ as Among}
 use Rattle.std.proofs.Math.Option.{some}

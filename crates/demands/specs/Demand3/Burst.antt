@@ -10,7 +10,7 @@ use Rattle.session_held.specs.Table.{view_of}
 use Rattle.session_held.specs.Promise.{Fresh}
 use Rattle.session_held.specs.declared.Session.{Session}
 use Rattle.session_calls.specs.Receiver.{OfferOwes}
-use Rattle.session_calls.specs.declared.receiver.AfterOffer.{AfterOffer}
+use Rattle.session_calls.specs.declared.Returned.{Returned}
 use Rattle.sender.specs.Honest.{HonestSender}
 use Rattle.demands.specs.Sheet.{packet0, packet1, datagram0, datagram1}
 use Rattle.demands.specs.Demand3.Feeding.{Fed}
@@ -36,7 +36,7 @@ abbrev pub burst_datagrams : List (List ℕ)
 burst_datagrams = datagram0 ∷ datagram1 ∷ (0x00 ∷ 0x02 ∷ 0x01 ∷ 0x08 ∷ 0x00 ∷ 0x00 ∷ []) ∷ datagram3 ∷ datagram4 ∷ []
 
 -- what the calls return if a fresh session s is offered datagrams 0, 3 and 4
-pub record BurstOffered (s : Session) (zero three four : AfterOffer) : Type 0 where
+pub record BurstOffered (s : Session) (zero three four : Returned (Unit {0})) : Type 0 where
   pub start : Fresh s
   pub first0 : OfferOwes s datagram0 zero
   pub then3 : OfferOwes zero.session datagram3 three
@@ -58,4 +58,4 @@ pub record BurstMet (before after : Session) : Type 0 where
 
 pub record Burst : Type 0 where
   pub honest : HonestSender burst_row burst_datagrams
-  pub met : (s : Session) (zero three four : AfterOffer) → BurstOffered s zero three four → BurstMet three.session four.session
+  pub met : (s : Session) (zero three four : Returned (Unit {0})) → BurstOffered s zero three four → BurstMet three.session four.session

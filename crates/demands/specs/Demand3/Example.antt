@@ -9,7 +9,7 @@ use Rattle.session_held.specs.Table.{view_of}
 use Rattle.session_held.specs.Promise.{Fresh}
 use Rattle.session_held.specs.declared.Session.{Session}
 use Rattle.session_calls.specs.Receiver.{OfferOwes}
-use Rattle.session_calls.specs.declared.receiver.AfterOffer.{AfterOffer}
+use Rattle.session_calls.specs.declared.Returned.{Returned}
 use Rattle.sender.specs.Honest.{HonestSender}
 use Rattle.demands.specs.Sheet.{packet0, packet1, message2, datagram0, datagram1, datagram2}
 use Rattle.demands.specs.Demand3.Feeding.{Fed, Takes}
@@ -23,7 +23,7 @@ example_datagrams = datagram0 ∷ datagram1 ∷ datagram2 ∷ []
 
 -- what the calls return if a fresh session s is offered datagram 2 alone, and if it is offered datagrams 1, 2 and 1. Such results exist,
 -- because each call terminates and keeps its promise
-pub record HandedBack (s : Session) (alone : AfterOffer) (one two three : AfterOffer) : Type 0 where
+pub record HandedBack (s : Session) (alone : Returned (Unit {0})) (one two three : Returned (Unit {0})) : Type 0 where
   pub start : Fresh s
   pub only2 : OfferOwes s datagram2 alone
   pub first1 : OfferOwes s datagram1 one
@@ -47,4 +47,4 @@ pub record Met (s one two : Session) : Type 0 where
 pub record Example : Type 0 where
   pub honest : HonestSender example_row example_datagrams
   pub all : (S : ℕ) → Among S (2 ∷ []) → Among S (1 ∷ 2 ∷ 1 ∷ [])
-  pub met : (s : Session) (alone one two three : AfterOffer) → HandedBack s alone one two three → Met s alone.session three.session
+  pub met : (s : Session) (alone one two three : Returned (Unit {0})) → HandedBack s alone one two three → Met s alone.session three.session

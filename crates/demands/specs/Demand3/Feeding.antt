@@ -1,7 +1,8 @@
 -- A session that an honest sender alone feeds, by the public calls: fresh at its start, and nothing ever offered over 32,000 places from
 -- the base (rule 28.8). Each call is made on the session that the call before returned, and may return anything that its promise allows.
 -- Datagrams are named by their places in the sender's row, from 0, and not by their numbers, which repeat. Definitions only.
-use Rattle.std.specs.Prelude.{ℕ, ◌+◌, ◌≤◌, ◌<◌, ◌≡◌, Bool, List, [], ◌∷◌, length, get_or}
+use Rattle.std.specs.Prelude.{ℕ, ◌+◌, ◌≤◌, ◌<◌, ◌≡◌, Bool, List, [], ◌∷◌, length, get_or, Ok, Err}
+use Rattle.session_release.specs.declared.Released.{Released}
 use Rattle.length.specs.Refusals as refusals
 use Rattle.length.specs.Refusals.{refusal}
 use Rattle.session.specs.Cells.{kept_before}
@@ -9,12 +10,9 @@ use Rattle.session.specs.View.{View, sum}
 use Rattle.session_held.specs.Table.{view_of}
 use Rattle.session_held.specs.Promise.{Fresh}
 use Rattle.session_held.specs.declared.Session.{Session}
-use Rattle.session_offer.specs.declared.Offered.TheVariants as answer
 use Rattle.session_calls.specs.Receiver.{OfferOwes, ReleaseOwes}
 use Rattle.session_calls.specs.Solver.{SolveOwes}
-use Rattle.session_calls.specs.declared.receiver.AfterOffer.{AfterOffer}
-use Rattle.session_calls.specs.declared.receiver.AfterRelease.{AfterRelease}
-use Rattle.session_calls.specs.declared.solver.AfterSolve.{AfterSolve}
+use Rattle.session_calls.specs.declared.Returned.{Returned}
 use Rattle.sender.specs.Sending.{history_kept}
 use Rattle.sender.specs.Honest as sending
 
@@ -46,7 +44,7 @@ datagram_at datagrams S = get_or datagrams S []
 
 module _ (row datagrams : List (List ℕ)) where
   -- the sender's datagram of place S is offered to the session s, and the call returns r
-  pub record Offers (S : ℕ) (s : Session) (r : AfterOffer) : Type 0 where
+  pub record Offers (S : ℕ) (s : Session) (r : Returned (Unit {0})) : Type 0 where
     pub sent : S < length row
     pub near : Near S (view_of s)
     pub octets : List ℕ
@@ -58,16 +56,16 @@ module _ (row datagrams : List (List ℕ)) where
   -- accepted or refused, with releases, with leave to skip or without, and solves among them
   pub data Fed : Session → Type 0 where
     fresh : {s : Session} → Fresh s → Fed s
-    offered : {s : Session} {S : ℕ} {r : AfterOffer} → Fed s → Offers S s r → Fed r.session
-    released : {s : Session} {leave : Bool} {old new : List ℕ} {r : AfterRelease} → Fed s → ReleaseOwes s leave old new r
+    offered : {s : Session} {S : ℕ} {r : Returned (Unit {0})} → Fed s → Offers S s r → Fed r.session
+    released : {s : Session} {leave : Bool} {old new : List ℕ} {r : Returned Released} → Fed s → ReleaseOwes s leave old new r
         → Fed r.session
-    solved : {s : Session} {r : AfterSolve} → Fed s → SolveOwes s r → Fed r.session
+    solved : {s : Session} {r : Returned (Unit {0})} → Fed s → SolveOwes s r → Fed r.session
 
   -- a list of accepted or repeated datagrams, with no release meanwhile (rule 28.8): from one session to another
   pub data Takes : List ℕ → Session → Session → Type 0 where
     none : {s : Session} → Takes [] s s
-    accepted : {S : ℕ} {places : List ℕ} {s t : Session} {r : AfterOffer} → Offers S s r → r.answer ≡ answer.Accepted
+    accepted : {S : ℕ} {places : List ℕ} {s t : Session} {r : Returned (Unit {0})} → Offers S s r → r.answer ≡ Ok tt
         → Takes places r.session t → Takes (S ∷ places) s t
-    repeated : {S : ℕ} {places : List ℕ} {s t : Session} {r : AfterOffer} → Offers S s r
-        → r.answer ≡ answer.Refused (refusal refusals.repeated)
+    repeated : {S : ℕ} {places : List ℕ} {s t : Session} {r : Returned (Unit {0})} → Offers S s r
+        → r.answer ≡ Err (refusal refusals.repeated)
         → Takes places r.session t → Takes (S ∷ places) s t

@@ -1,12 +1,11 @@
 -- One outcome of the calls for callers inside this repository, all but `clear_run` with a `requires` (rule 28.14): a record for each
 -- crate, with a field for each call, under its name and with its promise. A further hypothesis of a field is what the call requires. The
 -- calls of the second packet reader are in OnePencil. Statements only.
-use Rattle.std.specs.Prelude.{ℕ, ◌/◌, ◌≡◌, Bool, not, List, ◌++◌, length, set, drop, eqb}
+use Rattle.std.specs.Prelude.{ℕ, ◌/◌, ◌≡◌, Bool, not, List, ◌++◌, length, set, drop, eqb, Result}
 use Rattle.length.specs.Answers.{done}
 use Rattle.length.specs.Length.{length_octets}
 use Rattle.length.specs.Promise.{Puts, Put}
 use Rattle.length.specs.declared.Refusal.{Refusal}
-use Rattle.length.specs.declared.Written.{Written}
 use Rattle.datagram.specs.Sizes.{packet_limit}
 use Rattle.datagram.specs.Write.{item_octets, items_octets, cut, datagram_octets}
 use Rattle.datagram.specs.Inner.Heads as sizes
@@ -25,7 +24,6 @@ use Rattle.session_repair.specs.Promise.{MayMend, Mends}
 use Rattle.session_release.specs.Promise.{Leaves, Releases}
 use Rattle.session_release.specs.declared.Released.{Released}
 use Rattle.session_offer.specs.Promise.{Offers}
-use Rattle.session_offer.specs.declared.Offered.{Offered}
 use Rattle.sender.specs.Sender as sender
 use Rattle.sender.specs.Ranges as sending
 use Rattle.sender.specs.Inner.Held as sent
@@ -98,13 +96,13 @@ pub record InReceiving : Type 0 where
       → OneLent (λ (new_g new_t : List ℕ). Holds base d octets n items count t g new_t new_g)
   pub mend : (note base : ℕ) (t o g : List ℕ) → MayMend base t o g
       → OneLent (λ (new_o new_t : List ℕ). Mends note base t o g new_t new_o)
-  pub leave_core : {leave : Bool} {room : ℕ} {before after other : Lent} {r q : Released} → Leaves leave room before after r
+  pub leave_core : {leave : Bool} {room : ℕ} {before after other : Lent} {r q : Result Released Refusal} → Leaves leave room before after r
       → Leaves leave room before other q
       → (r ≡ q) × (after ≡ other)
-  pub release_core : {leave : Bool} {before after other : Lent} {old new newer : List ℕ} {r q : Released}
+  pub release_core : {leave : Bool} {before after other : Lent} {old new newer : List ℕ} {r q : Result Released Refusal}
       → Releases leave before after old new r → Releases leave before other old newer q
       → (r ≡ q) × (after ≡ other) × (new ≡ newer)
-  pub offer_core : {octets : List ℕ} {before after other : Lent} {r q : Offered} → Offers octets before after r
+  pub offer_core : {octets : List ℕ} {before after other : Lent} {r q : Result (Unit {0}) Refusal} → Offers octets before after r
       → Offers octets before other q
       → (r ≡ q) × (after ≡ other)
 
@@ -125,9 +123,10 @@ pub record InSending : Type 0 where
       → OneLent (Put (items_octets (items_in kind count number lengths o)) old)
   pub write_next : (number : ℕ) (lengths o packet : List ℕ) (kind : Kind) (count : ℕ) (old : List ℕ)
       → OneLent (Puts (done (datagram_octets (carried_in number lengths o packet kind count))) old)
-  pub send_held : {sent : ℕ} {settings : Settings} {packet lengths o old : List ℕ} {r q : Written}
+  pub send_held : {sent : ℕ} {settings : Settings} {packet lengths o old : List ℕ} {r q : Result ℕ Refusal}
       {new_s new_o new other_s other_o other : List ℕ}
-      → SendsHeld sent settings packet lengths o old new_s new_o new r → SendsHeld sent settings packet lengths o old other_s other_o other q
+      → SendsHeld sent settings packet lengths o old new_s new_o new r
+      → SendsHeld sent settings packet lengths o old other_s other_o other q
       → (SameHistory r q new_s other_s new_o other_o) × (new ≡ other)
 
 -- the program: `put_digits` and `pair_up` of `line_hex`; `put_kept` (a result line, of any octets), `put_refusal`, `keep_line` and

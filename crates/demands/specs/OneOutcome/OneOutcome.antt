@@ -1,9 +1,9 @@
 -- For each public call, two outcomes that its promise allows are equal: the answer, the session after and the caller's buffer (rule
 -- 28.14). Statements only.
-use Rattle.std.specs.Prelude.{ℕ, ◌≡◌, List}
+use Rattle.std.specs.Prelude.{ℕ, ◌≡◌, List, Result}
+use Rattle.length.specs.declared.Refusal.{Refusal}
 use Rattle.length.specs.Length.{length_to_write}
 use Rattle.length.specs.Promise.{Puts}
-use Rattle.length.specs.declared.Written.{Written}
 use Rattle.datagram.specs.declared.kind.Kind.{Kind}
 use Rattle.datagram_writer.specs.Promise.{DatagramWritten}
 use Rattle.packet.specs.declared.types.PacketKind as packet_kinds
@@ -29,8 +29,8 @@ use Rattle.demands.specs.OneOutcome.OneTold.{One, OneTold}
 use Rattle.demands.specs.OneOutcome.OneInside.{OneInside}
 
 -- two outcomes that a writer's promise allows, of the caller's buffer too
-abbrev pub OneWrite : (List ℕ → List ℕ → Written → Type 0) → Type 0
-OneWrite promise = (old new other : List ℕ) (r q : Written) → promise old new r → promise old other q → (r ≡ q) × (new ≡ other)
+abbrev pub OneWrite : (List ℕ → List ℕ → Result ℕ Refusal → Type 0) → Type 0
+OneWrite promise = (old new other : List ℕ) (r q : Result ℕ Refusal) → promise old new r → promise old other q → (r ≡ q) × (new ≡ other)
 
 -- `write` of `length_code`, `datagram_writer`, `packet_writer` and `image_writer`
 pub record Writers : Type 0 where

@@ -1,12 +1,13 @@
 -- One outcome of the calls that only report a value: a limit, a slot, a size, a flag (rule 28.14). A record for each crate, with a field
 -- for each call, under its name and with its promise. Statements only.
-use Rattle.std.specs.Prelude.{ℕ, ◌%◌, ◌≡◌, Bool, List, [], length}
+use Rattle.std.specs.Prelude.{ℕ, ◌%◌, ◌≡◌, Bool, List, [], length, Result, Option}
 use Rattle.length.specs.Length as lengths
 use Rattle.length.specs.Promise.{Octet, RefusalMade, RefusalPlaced, RefusalTold}
 use Rattle.length.specs.Refusals as refusals
 use Rattle.length.specs.Answers as answers
 use Rattle.length.specs.declared.Length.{Length}
 use Rattle.length.specs.declared.Refusal.{Refusal}
+use Rattle.length.specs.declared.Reason.{Reason}
 use Rattle.datagram.specs.Sizes as sizes
 use Rattle.datagram.specs.Write as write
 use Rattle.datagram.specs.Inner.Heads.{LengthSize, kind_head}
@@ -15,7 +16,6 @@ use Rattle.packet.specs.Edition as edition
 use Rattle.packet.specs.Edition.{edition02, edition_of, carries, allows}
 use Rattle.packet.specs.Packet as packet
 use Rattle.packet.specs.Promise.{padded_fields, packet_read}
-use Rattle.packet.specs.declared.types.Choice.{Choice}
 use Rattle.packet.specs.declared.types.Enumerated.{Enumerated}
 use Rattle.packet.specs.declared.types.PacketKind as packets
 use Rattle.packet.specs.declared.types.Named.{Named}
@@ -46,14 +46,14 @@ One {A} promise = (r q : A) → promise r → promise q → r ≡ q
 abbrev pub OneLent : {A : Type 0} → (List ℕ → A → Type 0) → Type 0
 OneLent {A} promise = (new other : List ℕ) (r q : A) → promise new r → promise other q → (r ≡ q) × (new ≡ other)
 
--- `length`: `new`, `at` and `further` of `Refusal`, `two_from`, `limit` and `refusal` of `Length`, `wide`, `within`
+-- `length`: `new`, `at` and `further` of `Refusal`, `two_from` and `limit` of `Length`, what a refused length says, `wide`, `within`
 pub record ToldByLengths : Type 0 where
-  pub refusal : (number : ℕ) → One (RefusalMade number)
-  pub refusal_at : (number place : ℕ) → One (RefusalPlaced number place)
+  pub refusal : (why : Reason) → One (RefusalMade why)
+  pub refusal_at : (why : Reason) (place : ℕ) → One (RefusalPlaced why place)
   pub refusal_further : (start : ℕ) (why : Refusal) → One (λ (r : Refusal). r ≡ refusals.further start why)
   pub length_two_from : One (λ (r : ℕ). r ≡ lengths.two_from)
   pub length_limit : One (λ (r : ℕ). r ≡ lengths.length_limit)
-  pub length_refusal : (found : Length) → One (RefusalTold found)
+  pub length_refusal : (found : Result Length Refusal) → One (RefusalTold found)
   pub octet_wide : (octet : ℕ) → One (Octet octet)
   pub within : (least most n : ℕ) → One (λ (r : Bool). r ≡ lengths.within least most n)
 
@@ -81,17 +81,17 @@ pub record ToldByPackets : Type 0 where
   pub fields_least : One (λ (r : ℕ). r ≡ packet.fields_least)
   pub fields_limit : One (λ (r : ℕ). r ≡ packet.fields_limit)
   pub types_limit : One (λ (r : ℕ). r ≡ packet.types_limit edition02)
-  pub choice_of : (octet : ℕ) → One (λ (r : Choice). r ≡ edition.choice_of octet)
+  pub choice_of : (octet : ℕ) → One (λ (r : Option Named). r ≡ edition.choice_of octet)
   pub values : (named : Named) (kind : packets.PacketKind) → One (λ (r : Enumerated). r ≡ edition.values (edition_of named) kind)
   pub types : (named : Named) → One (λ (r : Enumerated). r ≡ (edition_of named).types)
   pub right_fields : (kind : packets.PacketKind) (present : Bool) → One (λ (r : Bool). r ≡ packet.right_fields kind present)
   pub right_data : (kind : ℕ) (present : Bool) → One (λ (r : Bool). r ≡ allows (carries kind) present)
 
--- `packet_reader`: what its `read` shares with the second reader, `may_follow`, `no_fields` and `refused`
+-- `packet_reader`: what its `read` shares with the second reader, `may_follow`, `no_fields` and what a refused packet reads as
 pub record ToldByPacketReader : Type 0 where
   pub may_follow : (ending : endings.Ending) (left : List ℕ) → One (λ (r : Bool). r ≡ packet.may_follow ending left)
   pub no_fields : One (λ (r : List Field). r ≡ padded_fields [])
-  pub refused : (why : Refusal) → One (λ (r : PacketRead). r ≡ packet_read (answers.refused why))
+  pub refused : (why : Refusal) → One (λ (r : Result PacketRead Refusal). r ≡ packet_read (answers.refused why))
 
 -- `octets`: `wide`; `session_slots`: `passing`
 pub record ToldByStores : Type 0 where

@@ -1,7 +1,7 @@
 -- Images in two versions: version 02 is written (rule 20.8); version 01, with its lower limit, is read too and restores the same session
 -- (rule 20.9); one session has one image in each version that can hold it (rule 20.10). The layout is defined in `image`, and how a text
 -- of another version is refused is in Handover. Statements only.
-use Rattle.std.specs.Prelude.{ℕ, ◌≡◌, List}
+use Rattle.std.specs.Prelude.{ℕ, ◌≡◌, List, Ok}
 use Rattle.length.specs.Claims.{Octets}
 use Rattle.session.specs.View.{View}
 use Rattle.session.specs.Ranges.{Sound}
@@ -11,7 +11,6 @@ use Rattle.image.specs.Layout.{ImageVersion, old_limit, image_version01, image_v
 use Rattle.image.specs.Image.{image_text, OfOctets, LentOctets}
 use Rattle.image.specs.Promise.{ImageRead}
 use Rattle.image.specs.Claims.{Short}
-use Rattle.image.specs.declared.Restore.TheVariants as restore
 use Rattle.image.specs.declared.Restored.{Restored}
 use Rattle.demands.specs.Demand2.Demand2.{Saved}
 use Rattle.demands.specs.Requests.Handover.{Wrote, restoring, ReadAs, IsRead, Names}
@@ -41,5 +40,6 @@ pub record Editions : Type 0 where
       → ImageRead (image_text image_version02 (view_of s)) q → r ≡ q
   -- an adapter with the limit of version 01 holds its session in another struct: its image restores a session that holds the same (rule
   -- 20.9)
-  pub older : {view : View} {r : Restored} → Sound view → OfOctets view → Short old_limit view → ImageRead (image_text image_version01 view) r
-      → (r.answer ≡ restore.Done) × (view_of r.session ≡ view)
+  pub older : {view : View} {r : Restored} → Sound view → OfOctets view → Short old_limit view
+      → ImageRead (image_text image_version01 view) r
+      → (r.answer ≡ Ok tt) × (view_of r.session ≡ view)

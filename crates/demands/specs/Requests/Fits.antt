@@ -1,10 +1,8 @@
 -- Eight spares at the packet limit fit in a datagram, with a newest packet at the limit (rule 1.17), and whatever is written is within
 -- the datagram limit (rule 1.2). Statements only.
-use Rattle.std.specs.Prelude.{ℕ, ◌+◌, ◌*◌, ◌≤◌, ◌≡◌, List, length, replicate}
+use Rattle.std.specs.Prelude.{ℕ, ◌+◌, ◌*◌, ◌≤◌, ◌≡◌, List, length, replicate, Result, Ok}
+use Rattle.length.specs.declared.Refusal.{Refusal}
 use Rattle.length.specs.Answers.{done}
-use Rattle.length.specs.Promise.{Puts}
-use Rattle.length.specs.declared.Written.{Written}
-use Rattle.length.specs.declared.Written.TheVariants as written
 use Rattle.datagram.specs.Sizes.{packet_limit, datagram_limit, spares_limit}
 use Rattle.datagram.specs.Write.{datagram_to_write}
 use Rattle.datagram.specs.Inner.Heads.{item_size}
@@ -23,15 +21,15 @@ full_size = 2 + item_size packet_limit + 1 + 1 + spares_limit * item_size packet
 
 pub record Fits : Type 0 where
   -- with a buffer of the datagram limit they are written, whatever the octets are (rule 1.17)
-  pub all_spares : (number : ℕ) (packet run : List ℕ) {old new : List ℕ} {w : Written} → length packet ≡ packet_limit
+  pub all_spares : (number : ℕ) (packet run : List ℕ) {old new : List ℕ} {w : Result ℕ Refusal} → length packet ≡ packet_limit
       → length run ≡ spares_limit * packet_limit → datagram_limit ≤ length old
-      → DatagramWritten number packet kind.Spares (replicate spares_limit packet_limit) run old new w → w ≡ written.Octets full_size
+      → DatagramWritten number packet kind.Spares (replicate spares_limit packet_limit) run old new w → w ≡ Ok full_size
   -- and so is everything else that the datagram writer does not refuse
-  pub room : (number : ℕ) (packet : List ℕ) (kind : Kind) (lengths run : List ℕ) {octets old new : List ℕ} {w : Written}
+  pub room : (number : ℕ) (packet : List ℕ) (kind : Kind) (lengths run : List ℕ) {octets old new : List ℕ} {w : Result ℕ Refusal}
       → datagram_to_write number packet kind lengths run ≡ done octets → datagram_limit ≤ length old
-      → DatagramWritten number packet kind lengths run old new w → w ≡ written.Octets (length octets)
+      → DatagramWritten number packet kind lengths run old new w → w ≡ Ok (length octets)
   -- no datagram that was written is over the limit, neither the datagram writer's nor a send's (rule 1.2)
-  pub limited : (number : ℕ) (packet : List ℕ) (kind : Kind) (lengths run : List ℕ) {old new : List ℕ} {w : Written} {n : ℕ}
-      → DatagramWritten number packet kind lengths run old new w → w ≡ written.Octets n → n ≤ datagram_limit
+  pub limited : (number : ℕ) (packet : List ℕ) (kind : Kind) (lengths run : List ℕ) {old new : List ℕ} {w : Result ℕ Refusal} {n : ℕ}
+      → DatagramWritten number packet kind lengths run old new w → w ≡ Ok n → n ≤ datagram_limit
   pub sent : {s : Sender} {settings : Settings} {packet old new : List ℕ} {r : Sent} {n : ℕ} → Arrays s.sizes s.octets
-      → Sends s settings packet old new r → r.answer ≡ written.Octets n → n ≤ datagram_limit
+      → Sends s settings packet old new r → r.answer ≡ Ok n → n ≤ datagram_limit

@@ -2,7 +2,7 @@
 -- calls and whatever they returned. How an image looks is defined in `image`; its two versions are in Editions. Every value of the
 -- struct's type has arrays of the right lengths (`Sized`), 16-bit numbers in its table and octets in its stores (`LentOctets`), and every
 -- slice of octets has values below 256 (`Octets`). Statements only.
-use Rattle.std.specs.Prelude.{ℕ, ◌≤◌, ◌<◌, ◌≡◌, ◌⊎◌, ◌↔◌, true, false, length, take}
+use Rattle.std.specs.Prelude.{ℕ, ◌≤◌, ◌<◌, ◌≡◌, ◌⊎◌, ◌↔◌, true, false, length, take, Result, Ok, Err}
 use mathlib.Core.List.{List, ◌++◌, Memᴰ as Among}
 use Rattle.std.proofs.Math.Option.{some}
 use Rattle.length.specs.Refusals.{refusal, no_room, outside_ranges, bad_image, other_edition}
@@ -10,8 +10,6 @@ use Rattle.length.specs.Answers.{done, written_outcome}
 use Rattle.length.specs.Tables.{first, refusal_in, room_row}
 use Rattle.length.specs.Claims.{Octets}
 use Rattle.length.specs.declared.Refusal.{Refusal}
-use Rattle.length.specs.declared.Written.{Written}
-use Rattle.length.specs.declared.Written.TheVariants as written
 use Rattle.datagram.specs.Sizes.{packet_limit}
 use Rattle.session.specs.Cells.{kept_numbers}
 use Rattle.session.specs.Reached.{Known}
@@ -25,7 +23,6 @@ use Rattle.sender.specs.Honest.{HonestSender}
 use Rattle.image.specs.Layout.{ImageVersion, image_version01, image_version02}
 use Rattle.image.specs.Image.{image_text, names_edition, edition_named, read_text, image_rows, ImageHolds, LentOctets, image_limit}
 use Rattle.image.specs.Promise.{ImageWritten, ImageRead}
-use Rattle.image.specs.declared.Restore.TheVariants as restore
 use Rattle.image.specs.declared.Restored.{Restored}
 use Rattle.demands.specs.Common.Calls.{Call, Calls, start, ◌then◌, Called, call_refusal, left_by}
 use Rattle.demands.specs.Demand2.GoesOn.{GoesOn}
@@ -41,12 +38,12 @@ pub record Wrote (s : Session) (text : List ℕ) : Type 0 where
   pub old : List ℕ
   pub new : List ℕ
   pub size : ℕ
-  pub call : ImageWritten s old new (written.Octets size)
+  pub call : ImageWritten s old new (Ok size)
   pub unaltered : text ≡ take size new
 
 -- the answer that restores this session; and a read of this text returned it
 abbrev pub restoring : Session → Restored
-restoring t = record { session = t; answer = restore.Done }
+restoring t = record { session = t; answer = Ok tt }
 
 abbrev pub ReadAs : List ℕ → Session → Type 0
 ReadAs text t = ImageRead text (restoring t)
@@ -96,31 +93,31 @@ pub record StartsAt (row datagrams : List (List ℕ)) (t : Session) : Type 0 whe
 -- ---- the image reader refuses with 21, 20, 17 and then restores nothing (rule 20.18); the image writer refuses with 17, 13 (rule 20.19)
 pub record ImageRefuses : Type 0 where
   -- 17 for a session outside its ranges, 13 for an image longer than the caller's buffer, which is then unchanged (rule 20.19)
-  pub write : (s : Session) {old new : List ℕ} {w : Written} → ImageWritten s old new w
+  pub write : (s : Session) {old new : List ℕ} {w : Result ℕ Refusal} → ImageWritten s old new w
       → refusal_in (written_outcome w) ≡ first (image_rows (lent_by s) ++ room_row (image_text image_version02 (view_of s)) old)
   pub write_unchanged : (s : Session) → Unchanged (ImageWritten s)
   -- a buffer of `Image::limit` characters is large enough for any image (rule 20.20)
-  pub room_enough : {s : Session} {old new : List ℕ} {w : Written} → Sized s → LentOctets (lent_by s) → ImageWritten s old new w
-      → image_limit packet_limit ≤ length old → w ≡ written.Refused (refusal no_room) → ⊥
+  pub room_enough : {s : Session} {old new : List ℕ} {w : Result ℕ Refusal} → Sized s → LentOctets (lent_by s) → ImageWritten s old new w
+      → image_limit packet_limit ≤ length old → w ≡ Err (refusal no_room) → ⊥
   -- 21: the first octet can be read, and names no version that is read (rule 20.12)
   pub another_edition : {text : List ℕ} {r : Restored} → ImageRead text r
-      → (r.answer ≡ restore.Refused (refusal other_edition))
+      → (r.answer ≡ Err (refusal other_edition))
       ↔ ((names_edition text ≡ true) × ((edition : ImageVersion) → IsRead edition → Names edition text → ⊥))
   -- 20: the first octet cannot be read; or it names a version that is read, and the text is that version's image of no session, within
   -- its ranges or not (rule 20.13)
   pub misshapen : {text : List ℕ} {r : Restored} → Octets text → ImageRead text r
-      → (r.answer ≡ restore.Refused (refusal bad_image))
+      → (r.answer ≡ Err (refusal bad_image))
       ↔ ((names_edition text ≡ false)
       ⊎ ((edition : ImageVersion) × IsRead edition × Names edition text × ((view : View) → ImageOf edition text view → ⊥)))
   -- 17: the text is the image, in a version that is read, of a session outside its ranges (rules 20.17 and 20.18)
   pub outside : {text : List ℕ} {r : Restored} → Octets text → ImageRead text r
-      → (r.answer ≡ restore.Refused (refusal outside_ranges))
+      → (r.answer ≡ Err (refusal outside_ranges))
       ↔ ((edition : ImageVersion) × IsRead edition × (view : View) × ImageOf edition text view × (in_ranges view ≡ false))
   -- and no other refusal (rule 20.27)
-  pub only : {text : List ℕ} {r : Restored} {why : Refusal} → ImageRead text r → r.answer ≡ restore.Refused why
+  pub only : {text : List ℕ} {r : Restored} {why : Refusal} → ImageRead text r → r.answer ≡ Err why
       → (why ≡ refusal other_edition) ⊎ ((why ≡ refusal bad_image) ⊎ (why ≡ refusal outside_ranges))
   -- a refused text restores nothing: the session that is returned is a fresh one (rule 20.18)
-  pub nothing : {text : List ℕ} {r : Restored} {why : Refusal} → ImageRead text r → r.answer ≡ restore.Refused why → Fresh r.session
+  pub nothing : {text : List ℕ} {r : Restored} {why : Refusal} → ImageRead text r → r.answer ≡ Err why → Fresh r.session
 
 pub record Handover : Type 0 where
   -- reading an image gives a session equal to the one that was written, as a struct, and no other answer (rule 20.11)
@@ -131,7 +128,7 @@ pub record Handover : Type 0 where
   -- one session has one image (rule 20.10): two writes of it, into any buffers, write the same text; a text that was read in the version
   -- that is written is written back the same; and two texts of one version that were read as the same session are equal
   pub one_written : {s : Session} {text other : List ℕ} → Wrote s text → Wrote s other → text ≡ other
-  pub writes_back : {t : Session} {text old new : List ℕ} {w : Written} → Octets text → Names image_version02 text → ReadAs text t
+  pub writes_back : {t : Session} {text old new : List ℕ} {w : Result ℕ Refusal} → Octets text → Names image_version02 text → ReadAs text t
       → ImageWritten t old new w → length text ≤ length old → WrittenBack (length text) text old new w
   pub one_read : {t : Session} {text other : List ℕ} → Octets text → Octets other → edition_named text ≡ edition_named other
       → ReadAs text t → ReadAs other t → text ≡ other

@@ -1,15 +1,16 @@
--- `image_reader::read` meets its contract: the edition that the text names gives each answer. Assumes nothing.
+-- `image_reader::read` meets its contract: the version that the text names gives each answer. Assumes nothing.
+use Rattle.std.proofs.Common.{rules}
 use Rattle.image_reader.proofs.Restoring.{readings}
 use Rattle.image_reader.proofs.read.Goals as goal
 
-pub returns-then-octet-eq-OLD_EDITION : goal.returns-then-octet-eq-OLD_EDITION
-returns-then-octet-eq-OLD_EDITION c = search readings
+pub returns-in-None : goal.returns-in-None
+returns-in-None c = search (readings, rules)
 
-pub returns-then-octet-eq-EDITION : goal.returns-then-octet-eq-EDITION
-returns-then-octet-eq-EDITION c = search readings
+pub returns-in-Some-eq1 : goal.returns-in-Some-eq1
+returns-in-Some-eq1 c = search (readings, rules)
 
-pub returns-in-Nothing : goal.returns-in-Nothing
-returns-in-Nothing c = search readings
+pub returns-in-Some-eq2 : goal.returns-in-Some-eq2
+returns-in-Some-eq2 c = search (readings, rules)
 
-pub returns-else-octet-eq-EDITION : goal.returns-else-octet-eq-EDITION
-returns-else-octet-eq-EDITION c = search readings
+pub returns-in-Some : goal.returns-in-Some
+returns-in-Some c = search (readings, rules)

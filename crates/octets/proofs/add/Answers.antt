@@ -1,6 +1,5 @@
--- `octets::add` meets its contract. The loop's invariant: what the words left goes on, t octets of the tail are added. The measure is
--- the octets left. Assumes nothing.
-use Prim.Native.Nat.{◌-◌}
+-- `octets::add` meets its contract. The loop's invariant: what the words left goes on, t octets of the tail are added. Assumes
+-- nothing.
 use native.Mathlib.Omega.{arith}
 use Rattle.octets.proofs.Turns.{finishing-start, finishing-turn, finishing-done}
 use Rattle.octets.proofs.add.Goals as goal

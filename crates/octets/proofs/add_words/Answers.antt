@@ -1,6 +1,5 @@
--- `octets::add_words` meets its contract. The loop's invariant: k words are added, what comes after is as it was. The measure is the
--- words left. Assumes nothing.
-use Prim.Native.Nat.{◌-◌}
+-- `octets::add_words` meets its contract. The loop's invariant: k words are added, what comes after is as it was. Assumes
+-- nothing.
 use Rattle.octets.proofs.Turns.{wording-start, wording-turn, wording-done}
 use Rattle.octets.proofs.add_words.Goals as goal
 

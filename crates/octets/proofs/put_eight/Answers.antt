@@ -3,4 +3,6 @@ use Rattle.octets.proofs.Turns.{spells-eight}
 use Rattle.octets.proofs.put_eight.Goals as goal
 
 pub returns : goal.returns
-returns c = search spells-eight
+returns c =
+    rw c.copy_from_slice.ensures.after
+    (spells-eight c.args.octets.now c.args.at c.args.w c.requires c.ranges.w.fits c.to_le_bytes.ensures)

@@ -25,8 +25,8 @@ overflow_add-next c =
     let few = sent-few c.args.s.sent c.args.s.sizes c.args.s.octets within in
     omega arith
 
-pub returns-in-Octets : goal.returns-in-Octets
-returns-in-Octets c =
+pub returns-in-Ok : goal.returns-in-Ok
+returns-in-Ok c =
     let arrays : Arrays c.args.s.sizes c.args.s.octets = search rules in
     let within = within-told c.args.s.sent c.args.s.sizes c.args.s.octets arrays
     c.in_ranges.ensures
@@ -35,11 +35,11 @@ returns-in-Octets c =
     c.send_held-answer.ensures
     (search rules)
 
-pub returns-in-Refused : goal.returns-in-Refused
-returns-in-Refused c =
+pub returns-in-Err : goal.returns-in-Err
+returns-in-Err c =
     let arrays : Arrays c.args.s.sizes c.args.s.octets = search rules in
     let within = within-told c.args.s.sent c.args.s.sizes c.args.s.octets arrays
     c.in_ranges.ensures
     c.if-not-in_ranges.false-raw in
     sends-refused c.args.s c.args.settings c.args.packet.now c.args.out.now within
-    c.send_held-answer.ensures c.unchanged-in-Refused.ensures (search rules)
+    c.send_held-answer.ensures c.unchanged-in-Err.ensures (search rules)

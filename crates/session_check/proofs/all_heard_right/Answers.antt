@@ -1,6 +1,6 @@
--- `session_check::all_heard_right` meets its contract. The loop's invariant: ok says whether the distances below d are right. The measure
--- is the distances left. Assumes nothing.
-use Rattle.std.proofs.Common.{◌-◌, arith}
+-- `session_check::all_heard_right` meets its contract. The loop's invariant: ok says whether the distances below d are right. Assumes
+-- nothing.
+use Rattle.std.proofs.Common.{arith}
 use Rattle.session_check.proofs.Turns.{checked-start, heard-turn, checked-done}
 use Rattle.session_check.proofs.all_heard_right.Goals as goal
 

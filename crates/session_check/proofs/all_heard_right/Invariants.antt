@@ -1,6 +1,5 @@
--- `session_check::all_heard_right` meets its contract. The loop's invariant: ok says whether the distances below d are right. The measure
--- is the distances left. Assumes nothing.
-use Rattle.std.proofs.Common.{◌-◌}
+-- `session_check::all_heard_right` meets its contract. The loop's invariant: ok says whether the distances below d are right. Assumes
+-- nothing.
 use Rattle.session.specs.Cells.{kept_ahead}
 use Rattle.session_check.specs.Pieces.{heard_test}
 use Rattle.session_check.proofs.Turns.{Checked}
@@ -8,6 +7,3 @@ use Rattle.session_check.proofs.all_heard_right.Given as goal
 
 abbrev pub invariant-loop-d : goal.invariant-loop-d
 invariant-loop-d l = Checked kept_ahead (heard_test l.base-2 l.table l.messages) l.ok l.d
-
-abbrev pub decreases-loop-d : goal.decreases-loop-d
-decreases-loop-d l = kept_ahead - l.d

@@ -1,6 +1,6 @@
--- `session_check::all_packets_laid` meets its contract. The loop's invariant: ok says whether the slots below i are right. The measure is
--- the slots left. Assumes nothing.
-use Rattle.std.proofs.Common.{◌-◌, arith}
+-- `session_check::all_packets_laid` meets its contract. The loop's invariant: ok says whether the slots below i are right. Assumes
+-- nothing.
+use Rattle.std.proofs.Common.{arith}
 use Rattle.session_check.proofs.Turns.{checked-start, size-fits-there, packet-turn, checked-done}
 use Rattle.session_check.proofs.all_packets_laid.Goals as goal
 

@@ -1,6 +1,5 @@
--- `session_check::all_packets_laid` meets its contract. The loop's invariant: ok says whether the slots below i are right. The measure is
--- the slots left. Assumes nothing.
-use Rattle.std.proofs.Common.{◌-◌}
+-- `session_check::all_packets_laid` meets its contract. The loop's invariant: ok says whether the slots below i are right. Assumes
+-- nothing.
 use Rattle.session_held.specs.Slots.{slots_kept}
 use Rattle.session_check.specs.Pieces.{packet_test}
 use Rattle.session_check.proofs.Turns.{Checked}
@@ -8,6 +7,3 @@ use Rattle.session_check.proofs.all_packets_laid.Given as goal
 
 abbrev pub invariant-loop-i : goal.invariant-loop-i
 invariant-loop-i l = Checked slots_kept (packet_test l.table l.octets) l.ok l.i
-
-abbrev pub decreases-loop-i : goal.decreases-loop-i
-decreases-loop-i l = slots_kept - l.i

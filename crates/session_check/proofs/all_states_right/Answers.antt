@@ -1,6 +1,6 @@
--- `session_check::all_states_right` meets its contract. The loop's invariant: ok says whether the slots below i are right. The measure is
--- the slots left. Assumes nothing.
-use Rattle.std.proofs.Common.{◌-◌, arith, rules}
+-- `session_check::all_states_right` meets its contract. The loop's invariant: ok says whether the slots below i are right. Assumes
+-- nothing.
+use Rattle.std.proofs.Common.{arith, rules}
 use Rattle.session_check.proofs.Turns.{checked-start, sum-small, state-turn, checked-done}
 use Rattle.session_check.proofs.all_states_right.Goals as goal
 

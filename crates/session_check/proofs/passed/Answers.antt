@@ -5,5 +5,5 @@ use Rattle.session_check.proofs.passed.Goals as goal
 pub returns-then-whole : goal.returns-then-whole
 returns-then-whole c = search passes
 
-pub returns : goal.returns
-returns c = search passes
+pub returns-else-whole : goal.returns-else-whole
+returns-else-whole c = search passes

@@ -1,6 +1,5 @@
--- `session_release::free_messages` meets its contract: after i turns i messages are cleared and every other slot is as it was. The
--- measure is what is left of m. Assumes nothing.
-use Rattle.std.proofs.Common.{◌-◌}
+-- `session_release::free_messages` meets its contract: after i turns i messages are cleared and every other slot is as it was. Assumes
+-- nothing.
 use Rattle.session_release.proofs.Freeing.{freeings}
 use Rattle.session_release.proofs.free_messages.Goals as goal
 

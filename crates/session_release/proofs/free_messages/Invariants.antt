@@ -1,11 +1,7 @@
--- `session_release::free_messages` meets its contract: after i turns i messages are cleared and every other slot is as it was. The
--- measure is what is left of m. Assumes nothing.
-use Rattle.std.proofs.Common.{◌-◌}
+-- `session_release::free_messages` meets its contract: after i turns i messages are cleared and every other slot is as it was. Assumes
+-- nothing.
 use Rattle.session_release.proofs.Freeing.{Freeing}
 use Rattle.session_release.proofs.free_messages.Given as goal
 
 abbrev pub invariant-loop-i : goal.invariant-loop-i
 invariant-loop-i l = Freeing l.j l.m l.initial.messages l.messages l.i
-
-abbrev pub decreases-loop-i : goal.decreases-loop-i
-decreases-loop-i l = l.m - l.i

@@ -15,7 +15,7 @@ pub copy_out-requires : goal.copy_out-requires
 copy_out-requires c =
     let small =
     size_small c.requires.may_mend.within c.args.distance c.args.index c.requires.index_bound
-    c.wrapping_add_u16-at.ensures.value
+    refl
     c.heard_slot-slot.ensures c.message_size_at-size.ensures in record { has_slot = omega (arith, c.requires.may_mend.within.laid.messages, c.requires.index_lt_messages_limit, c.heard_slot-slot.ensures); n_le_packet_limit = small; n_in_bounds = small }
 
 pub slice_bounds-sum-end : goal.slice_bounds-sum-end
@@ -41,7 +41,7 @@ unfolding zeros
 returns c =
     asked-over c.requires.may_mend.within c.args.distance c.args.index c.requires.distance_lt_kept_ahead c.requires.index_bound
     (zeros packet_limit) (length-zeros packet_limit)
-    c.wrapping_add_u16-at.ensures.value c.heard_slot-slot.ensures c.n_at-n.ensures
+    refl c.heard_slot-slot.ensures c.n_at-n.ensures
     c.m_at.ensures
     c.narrow-m.ensures refl c.message_size_at-size.ensures c.copy_out.ensures c.narrow.ensures
-    c.wrapping_add_u16-first.ensures.value (zeros-at packet_limit) c.requires.width_le_packet_limit c.add_members.ensures
+    refl (zeros-at packet_limit) c.requires.width_le_packet_limit c.add_members.ensures

@@ -26,8 +26,8 @@ slice_bounds-put-end c =
 pub put-requires : goal.put-requires
 put-requires c = let fits = size_fits c.requires.may_mend.within c.requires.points c.requires.index_value c.size_of-size.ensures in record { has_slot = omega (arith, slot-fits c.requires.may_mend.within c.requires.points c.requires.index_value, c.requires.may_mend.within.laid.octets); src_len_bound = omega (arith, fits, length-take c.size_of-size.result c.asked-sum.result) }
 
-pub narrow-length-requires : goal.narrow-length-requires
-narrow-length-requires c = size_fits c.requires.may_mend.within c.requires.points c.requires.index_value c.size_of-size.ensures
+pub narrow-requires : goal.narrow-requires
+narrow-requires c = size_fits c.requires.may_mend.within c.requires.points c.requires.index_value c.size_of-size.ensures
 
 pub set_kept-requires : goal.set_kept-requires
 set_kept-requires c = record { table_len = c.requires.may_mend.within.laid.long; slot_lt_slots_kept = slot-fits c.requires.may_mend.within c.requires.points c.requires.index_value }
@@ -38,5 +38,5 @@ returns c =
       fills =
           λ counts w.
           filled w c.requires.points c.requires.index_value c.asked-sum.ensures c.size_of-size.ensures c.put.ensures
-          c.narrow-length.ensures c.set_kept.ensures;
+          c.narrow.ensures c.set_kept.ensures;
     }

@@ -1,7 +1,7 @@
 -- `session_slots::copy_out` meets its contract. Assumes nothing.
 use Prim.Native.Nat.{◌-◌}
 use native.Mathlib.Omega.{arith}
-use Rattle.session_slots.proofs.Turns.{laying-start, copying-turn, copying-done}
+use Rattle.session_slots.proofs.Copying.{laying-start, copying-turn, copying-done}
 use Rattle.session_slots.proofs.copy_out.Goals as goal
 
 pub loop-j-init : goal.loop-j-init

@@ -1,7 +1,7 @@
 -- `session_slots::put` meets its contract. Assumes nothing.
 use Prim.Native.Nat.{◌-◌}
 use native.Mathlib.Omega.{arith}
-use Rattle.session_slots.proofs.Turns.{laying-start, putting-turn, laying-done}
+use Rattle.session_slots.proofs.Copying.{laying-start, putting-turn, laying-done}
 use Rattle.session_slots.proofs.put.Goals as goal
 
 pub loop-j-init : goal.loop-j-init

@@ -1,12 +1,6 @@
--- `session_slots::zero_run` meets its contract. The loop's invariant: ok says whether the octets below j are zero. The measure is the
--- octets left. Assumes nothing.
-use Prim.Native.Nat.{◌-◌}
-use lib.ListN.{length}
+-- `session_slots::zero_run` meets its contract. The loop's invariant: ok says whether the octets before this one are zero. Assumes nothing.
 use Rattle.session_slots.proofs.Turns.{Checked}
 use Rattle.session_slots.proofs.zero_run.Given as goal
 
-abbrev pub invariant-loop-j : goal.invariant-loop-j
-invariant-loop-j l = Checked l.run 0 l.ok l.j
-
-abbrev pub decreases-loop-j : goal.decreases-loop-j
-decreases-loop-j l = length l.run - l.j
+abbrev pub invariant-loop-octet : goal.invariant-loop-octet
+invariant-loop-octet l = Checked l.run 0 l.ok l.octet-index

@@ -1,6 +1,5 @@
 -- `session_slots::zeros_in_run` meets its contract. The loop's invariant: ok says whether the octets below j are right. The measure is the
 -- octets left. Assumes nothing.
-use Prim.Native.Nat.{◌-◌}
 use Rattle.session_slots.proofs.Turns.{checked-start, checked-turn, checked-done, table-inside}
 use Rattle.session_slots.proofs.zeros_in_run.Goals as goal
 

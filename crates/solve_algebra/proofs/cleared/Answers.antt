@@ -1,6 +1,4 @@
--- `solve_algebra::cleared` meets its contract. The loop's invariant: the rows that are passed are cleared. The measure is the rows left.
--- Assumes nothing.
-use Prim.Native.Nat.{◌-◌}
+-- `solve_algebra::cleared` meets its contract. The loop's invariant: the rows that are passed are cleared. Assumes nothing.
 use Rattle.solve_algebra.proofs.Turns.{clearing-start, clearing-turn, clearing-done, mapped-long}
 use Rattle.solve_algebra.proofs.cleared.Goals as goal
 

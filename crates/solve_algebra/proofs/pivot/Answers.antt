@@ -1,6 +1,4 @@
--- `solve_algebra::pivot` meets its contract. The loop's invariant: no row that is passed has the column. The measure is the rows left.
--- Assumes nothing.
-use Prim.Native.Nat.{◌-◌}
+-- `solve_algebra::pivot` meets its contract. The loop's invariant: no row that is passed has the column. Assumes nothing.
 use Rattle.solve_algebra.proofs.Pivots.{seeking-start, seeking-turn, seeking-found, seeking-none}
 use Rattle.solve_algebra.proofs.pivot.Goals as goal
 

@@ -1,25 +1,26 @@
--- `solve_algebra::reduced` meets its contract. The loop's invariant: what is left to eliminate, done to the table now, gives the whole. The
--- measure is the columns left. Assumes nothing.
+-- `solve_algebra::reduced` meets its contract. The loop's invariant: what is left to eliminate, done to the table now, gives the whole.
+-- Assumes nothing.
 use Rattle.std.proofs.Common.{rules}
-use Prim.Native.Nat.{◌-◌}
 use Rattle.solve_algebra.proofs.Turns.{reducing-start, rank-inside, reducing-turn, reducing-none, reducing-done}
 use Rattle.solve_algebra.proofs.Turns.{mapped-long}
 use Rattle.solve_algebra.proofs.reduced.Goals as goal
+use Rattle.solve_algebra.proofs.reduced.Goals.{then-at-lt-COUNT, else-at-lt-COUNT}
 
-pub loop-next-init : goal.loop-next-init
-loop-next-init c = search (reducing-start, mapped-long)
+pub loop-column-init : goal.loop-column-init
+loop-column-init c = search (reducing-start, mapped-long)
 
-pub swapped-turned-requires : goal.swapped-turned-requires
-swapped-turned-requires c = search (rank-inside, rules)
+pub swapped-requires-clause-b_lt_table_rows : goal.swapped-requires-clause-b_lt_table_rows
+swapped-requires-clause-b_lt_table_rows c = search (rank-inside, rules)
 
-pub cleared-clear-requires : goal.cleared-clear-requires
-cleared-clear-requires c = search (rank-inside, rules)
+pub cleared-table-requires-clause-at_lt_table_rows : goal.cleared-table-requires-clause-at_lt_table_rows
+cleared-table-requires-clause-at_lt_table_rows c = search (rank-inside, rules)
 
-pub loop-next-preserved-then-at-lt-COUNT : goal.loop-next-preserved-then-at-lt-COUNT
-loop-next-preserved-then-at-lt-COUNT c = search reducing-turn
-
-pub loop-next-preserved : goal.loop-next-preserved
-loop-next-preserved c = reducing-none c.loop-next.invariant c.loop-next-test.true c.pivot-at.ensures c.if-at-lt-COUNT.false
+pub loop-column-preserved : goal.loop-column-preserved
+loop-column-preserved c =
+    elim c.if-at-lt-COUNT.branch [
+      | then-at-lt-COUNT w ↦ rw (w.table-is, w.rank-is) (search reducing-turn)
+      | else-at-lt-COUNT w ↦ rw (w.table-is, w.rank-is) (search reducing-none)
+    ]
 
 pub returns : goal.returns
 returns c = search reducing-done

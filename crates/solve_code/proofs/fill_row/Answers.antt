@@ -1,5 +1,5 @@
 -- `solve_code::fill_row` meets its contract. Assumes nothing.
-use Rattle.std.proofs.Common.{refl}
+use Rattle.std.proofs.Common.{refl, arith}
 use Rattle.solve_code.proofs.Filling.{repaired-fills, repaired-noted, part-inside, stands, may-keep, row-fills, row-none}
 use Rattle.solve_code.proofs.Filling.{table-long, octets-long}
 use Rattle.solve_code.proofs.fill_row.Goals as goal
@@ -9,8 +9,8 @@ keep-requires c =
     record {
       table_len = table-long c.requires.may_fill;
       octets_len = octets-long c.requires.may_fill;
-      may_keep = may-keep c.args.base c.wrapping_sub_u16-first.result c.if-place-lt-PLACES.true refl c.wrapping_sub_u16-first.ensures.value refl
-          c.wrapping_add_u16-number.ensures.value
+      may_keep = may-keep c.args.base _ c.if-place-lt-PLACES.true refl (omega (arith, c.ranges.base.fits)) refl
+          refl
           c.requires.may_fill;
       state_value = repaired-fills;
       number_value = repaired-noted 0 _;
@@ -20,8 +20,8 @@ keep-requires c =
 pub returns-then-place-lt-PLACES : goal.returns-then-place-lt-PLACES
 returns-then-place-lt-PLACES c =
     row-fills c.lone_place-place.ensures c.if-place-lt-PLACES.true
-    (stands c.args.base c.wrapping_sub_u16-first.result c.if-place-lt-PLACES.true refl c.wrapping_sub_u16-first.ensures.value refl
-    c.wrapping_add_u16-number.ensures.value)
+    (stands c.args.base _ c.if-place-lt-PLACES.true refl (omega (arith, c.ranges.base.fits)) refl
+    refl)
     c.row_sum-sum.ensures c.keep.ensures
 
 pub returns-else-place-lt-PLACES : goal.returns-else-place-lt-PLACES

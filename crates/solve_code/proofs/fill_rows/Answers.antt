@@ -1,14 +1,12 @@
--- `solve_code::fill_rows` meets its contract. The loop's invariant: what the first i rows fill is filled. The measure is the rows left.
--- Assumes nothing.
-use Rattle.std.proofs.Common.{◌-◌}
+-- `solve_code::fill_rows` meets its contract. The loop's invariant: what the rows of the turns so far fill is filled. Assumes nothing.
 use Rattle.solve_code.proofs.Filling.{filled-start, filled-turn, filled-done}
 use Rattle.solve_code.proofs.fill_rows.Goals as goal
 
-pub loop-i-init : goal.loop-i-init
-loop-i-init c = search filled-start
+pub loop-row-init : goal.loop-row-init
+loop-row-init c = search filled-start
 
-pub loop-i-preserved : goal.loop-i-preserved
-loop-i-preserved c = search filled-turn
+pub loop-row-preserved : goal.loop-row-preserved
+loop-row-preserved c = search filled-turn
 
 pub returns : goal.returns
 returns c = search filled-done

@@ -5,10 +5,10 @@ use Rattle.datagram_reader.proofs.ReadSteps.{read-front, rests}
 use Rattle.datagram_reader.proofs.reader.length_at.Goals as goal
 
 pub further-requires : goal.further-requires
-further-requires c = omega (arith, read-front c.read_within.ensures c.in-Refused.is)
+further-requires c = omega (arith, read-front c.read_within.ensures c.in-Err.is)
 
-pub returns-in-Value : goal.returns-in-Value
-returns-in-Value c = search rests
+pub returns-in-Ok : goal.returns-in-Ok
+returns-in-Ok c = search rests
 
-pub returns-in-Refused : goal.returns-in-Refused
-returns-in-Refused c = search rests
+pub returns-in-Err : goal.returns-in-Err
+returns-in-Err c = search rests

@@ -1,11 +1,7 @@
 -- `datagram_reader::whole_of` meets its contract: the loop's invariant: what is left to read, put behind what was read, is the
--- whole. The measure is how many are left. Assumes nothing.
-use Prim.Native.Nat.{◌-◌}
+-- whole. Assumes nothing.
 use Rattle.datagram_reader.proofs.ReadTurn.{Turning}
 use Rattle.datagram_reader.proofs.reader.whole_of.Given as goal
 
 abbrev pub invariant-loop-i : goal.invariant-loop-i
-invariant-loop-i l = Turning l.low l.high l.octets l.count l.first l.items l.at l.i
-
-abbrev pub decreases-loop-i : goal.decreases-loop-i
-decreases-loop-i l = l.count - l.i
+invariant-loop-i l = Turning l.low l.high l.octets l.extra.count l.extra.first l.items l.at l.i

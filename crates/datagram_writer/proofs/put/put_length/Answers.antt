@@ -2,8 +2,8 @@
 use Rattle.datagram_writer.proofs.PutSteps.{puts}
 use Rattle.datagram_writer.proofs.put.put_length.Goals as goal
 
-pub returns-in-Octets : goal.returns-in-Octets
-returns-in-Octets c = search puts
+pub returns-in-Ok : goal.returns-in-Ok
+returns-in-Ok c = search puts
 
-pub returns-in-Refused : goal.returns-in-Refused
-returns-in-Refused c = search puts
+pub returns-in-Err : goal.returns-in-Err
+returns-in-Err c = search puts

@@ -1,16 +1,11 @@
--- `datagram_writer::items_inside` meets its contract. Assumes nothing.
-use Prim.Native.Nat.{◌-◌}
-use Rattle.datagram_writer.proofs.WriteTests.{tests}
+-- `datagram_writer::items_inside` meets its contract: what the iterator tests of each length is the definition's test. Assumes nothing.
+use Rattle.std.proofs.Common.{◌∙◌, rules, tests}
+use Rattle.std.proofs.lemmas.Iterator.{YieldsList-from_slice}
+use Rattle.std.proofs.lemmas.Iterator.Search.{all_from_yields_List}
+use Rattle.datagram_writer.proofs.WriteTests.{all-inside}
 use Rattle.datagram_writer.proofs.writer.items_inside.Goals as goal
 
-pub loop-i-init : goal.loop-i-init
-loop-i-init c = search tests
-
-pub returns-then-not-item_inside : goal.returns-then-not-item_inside
-returns-then-not-item_inside c = search tests
-
-pub loop-i-preserved : goal.loop-i-preserved
-loop-i-preserved c = search tests
-
 pub returns : goal.returns
-returns c = search tests
+returns c =
+    all_from_yields_List _ _ _ _ c.all.ensures.ran (YieldsList-from_slice c.args.lengths.now cc) (λ x b q k. search (rules, tests))
+    ∙ all-inside c.args.kind c.args.lengths.now

@@ -4,6 +4,3 @@ use Rattle.datagram_writer.proofs.writer.write_allowed.Goals as goal
 
 pub returns-then-out-size : goal.returns-then-out-size
 returns-then-out-size c = search writes
-
-pub returns : goal.returns
-returns c = search writes

@@ -2,8 +2,8 @@
 use Rattle.frame_feed.proofs.Turning.{turnings}
 use Rattle.frame_feed.proofs.turn.turns.Goals as goal
 
-pub returns-in-Packet : goal.returns-in-Packet
-returns-in-Packet c = search turnings
+pub returns-in-Ok : goal.returns-in-Ok
+returns-in-Ok c = search turnings
 
-pub returns-in-Refused : goal.returns-in-Refused
-returns-in-Refused c = search turnings
+pub returns-in-Err : goal.returns-in-Err
+returns-in-Err c = search turnings

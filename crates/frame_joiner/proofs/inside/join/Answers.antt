@@ -11,5 +11,5 @@ returns-then-hands_bad c = search joinings
 pub returns-then-hands_good-size : goal.returns-then-hands_good-size
 returns-then-hands_good-size c = search joinings
 
-pub returns : goal.returns
-returns c = search joinings
+pub returns-else-hands_good-size : goal.returns-else-hands_good-size
+returns-else-hands_good-size c = search joinings

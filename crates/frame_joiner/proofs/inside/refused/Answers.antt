@@ -2,4 +2,4 @@
 use Rattle.frame_joiner.proofs.inside.refused.Goals as goal
 
 pub returns : goal.returns
-returns c = rw c.new-why.ensures.answer
+returns c = rw c.new.ensures.answer

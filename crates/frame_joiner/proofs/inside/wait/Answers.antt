@@ -2,4 +2,4 @@
 use Rattle.frame_joiner.proofs.inside.wait.Goals as goal
 
 pub returns : goal.returns
-returns c = rw c.ends_frame-over.ensures
+returns c = rw c.ends_frame.ensures

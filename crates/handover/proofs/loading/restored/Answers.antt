@@ -4,22 +4,22 @@ use Prim.Native.Nat.{ℕ}
 use mathlib.Core.Path.{◌≡◌, sym}
 use mathlib.Core.Bool.{true, false, false≢true}
 use mathlib.Core.List.{List}
+use Rattle.std.specs.Prelude.{⊤, Result, Ok, Err}
+use Rattle.length.specs.declared.Refusal.{Refusal}
 use Rattle.session_held.specs.Table.{lent_by}
 use Rattle.session_held.specs.Laid.{InRanges}
 use Rattle.session_held.specs.declared.Session.{Session}
 use Rattle.session_held.proofs.Laws.{session-in-ranges}
 use Rattle.image.specs.Promise.{Restores, ImageRead}
-use Rattle.image.specs.declared.Restore.{Restore}
-use Rattle.image.specs.declared.Restore.TheVariants as restore
 use Rattle.image.specs.declared.Restored.{Restored}
 use Rattle.handover.specs.Promise.{BeginsWith}
 use Rattle.handover.proofs.loading.restored.Goals as goal
 
-within-either-way : (answer : Restore) {s : Session} → Restores answer s → InRanges (lent_by s)
-within-either-way restore.Done within = within
-within-either-way (restore.Refused why) fresh = session-in-ranges _ fresh.ranges fresh.sized
+within-either-way : (answer : Result ⊤ Refusal) {s : Session} → Restores answer s → InRanges (lent_by s)
+within-either-way (Ok tt) within = within
+within-either-way (Err why) fresh = session-in-ranges _ fresh.ranges fresh.sized
 
-begins-done : {text : List ℕ} (r : Restored) → ImageRead text r → r.answer ≡ restore.Done
+begins-done : {text : List ℕ} (r : Restored) → ImageRead text r → r.answer ≡ Ok tt
     → BeginsWith text (record { session = r.session; well = true })
 begins-done r read told =
     record { state = λ e. sym (rw told at read.answer); within = within-either-way r.answer read.state }
@@ -27,12 +27,12 @@ begins-done r read told =
 begins-not : {text : List ℕ} (r : Restored) → ImageRead text r → BeginsWith text (record { session = r.session; well = false })
 begins-not r read = record { state = λ e. absurd (false≢true e); within = within-either-way r.answer read.state }
 
-pub returns-in-Done : goal.returns-in-Done
-returns-in-Done c =
+pub returns-in-Ok : goal.returns-in-Ok
+returns-in-Ok c =
     let read = c.read-found in
-    begins-done read.result read.ensures c.in-Done.is
+    begins-done read.result read.ensures c.in-Ok.is
 
-pub returns-in-Refused : goal.returns-in-Refused
-returns-in-Refused c =
+pub returns-in-Err : goal.returns-in-Err
+returns-in-Err c =
     let read = c.read-found in
     begins-not read.result read.ensures

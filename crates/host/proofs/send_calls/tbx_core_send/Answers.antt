@@ -12,12 +12,12 @@ overflow_add-next c =
     let few = room-left within in
     omega arith
 
-pub returns-in-Octets : goal.returns-in-Octets
-returns-in-Octets c =
+pub returns-in-Ok : goal.returns-in-Ok
+returns-in-Ok c =
     send-written (search rules) c.settings_of-settings.ensures
     c.send_held-answer.ensures (search rules) refl
 
-pub returns-in-Refused : goal.returns-in-Refused
-returns-in-Refused c =
+pub returns-in-Err : goal.returns-in-Err
+returns-in-Err c =
     send-kept (search rules) c.settings_of-settings.ensures
-    c.send_held-answer.ensures (search rules)
+    c.send_held-answer.ensures {why = c.in-Err.why} (search rules) (search rules)

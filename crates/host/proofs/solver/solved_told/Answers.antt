@@ -2,8 +2,8 @@
 use Rattle.host.proofs.Solving.{telling}
 use Rattle.host.proofs.solver.solved_told.Goals as goal
 
-pub returns-in-Filled : goal.returns-in-Filled
-returns-in-Filled c = search telling
+pub returns-in-Ok : goal.returns-in-Ok
+returns-in-Ok c = search telling
 
-pub returns-in-Refused : goal.returns-in-Refused
-returns-in-Refused c = search telling
+pub returns-in-Err : goal.returns-in-Err
+returns-in-Err c = search telling

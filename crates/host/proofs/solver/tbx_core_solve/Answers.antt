@@ -4,4 +4,4 @@ use Rattle.host.proofs.Solving.{solve-hosted}
 use Rattle.host.proofs.solver.tbx_core_solve.Goals as goal
 
 pub returns : goal.returns
-returns c = solve-hosted (search rules) c.solve_core-answer.ensures c.solved_told.ensures
+returns c = solve-hosted (search rules) (rw c.counts.ensures at c.solve_core-answer.ensures) c.solved_told.ensures

@@ -9,14 +9,14 @@ returns-in_default c = search parts
 pub overflow_add-start : goal.overflow_add-start
 overflow_add-start c =
     let a = c.args in
-    let read = c.read_within-found.ensures in
-    omega (arith, length-ends a.s.now a.at read c.in-Value.is (search rules))
+    let read = c.read_within.ensures in
+    omega (arith, length-ends a.s.now a.at read c.in-Ok.is (search rules))
 
 pub overflow_sub-s : goal.overflow_sub-s
 overflow_sub-s c =
     let a = c.args in
-    let read = c.read_within-found.ensures in
-    length-ends a.s.now a.at read c.in-Value.is (search rules)
+    let read = c.read_within.ensures in
+    length-ends a.s.now a.at read c.in-Ok.is (search rules)
 
 pub returns-then-s-start : goal.returns-then-s-start
 returns-then-s-start c = search parts

@@ -1,11 +1,6 @@
--- `image_reader::lay_messages` meets its contract: after i turns i messages are laid and every other number's are as they were. The measure
--- is what is left of the count. Assumes nothing.
-use Rattle.std.proofs.Common.{◌-◌}
+-- `image_reader::lay_messages` meets its contract: after i turns i messages are laid, and all others are unchanged. Assumes nothing.
 use Rattle.image_reader.proofs.Messages.{Laying}
 use Rattle.image_reader.proofs.laying.lay_messages.Given as goal
 
 abbrev pub invariant-loop-i : goal.invariant-loop-i
 invariant-loop-i l = Laying l.j l.s l.parts l.count l.initial.table l.initial.messages l.table l.messages l.i
-
-abbrev pub decreases-loop-i : goal.decreases-loop-i
-decreases-loop-i l = l.count - l.i

@@ -1,16 +1,12 @@
--- `image_reader::edition_named` meets its contract: how many digits stand at the front gives each answer. Assumes nothing.
-use Rattle.std.proofs.Common.{sym, arith}
-use Rattle.image_reader.proofs.Naming.{namings, two_digits, two-long}
+-- `image_reader::edition_named` meets its contract: how many digits are at the front gives each answer. Assumes nothing.
+use Rattle.image_reader.proofs.Naming.{namings, two_digits}
 use Rattle.image_reader.proofs.text.edition_named.Goals as goal
 
-pub returns-then-digits-lt2 : goal.returns-then-digits-lt2
-returns-then-digits-lt2 c = search namings
+pub returns-then-upper_run-lt2 : goal.returns-then-upper_run-lt2
+returns-then-upper_run-lt2 c = search namings
 
-pub slice_bounds-pair_up-end : goal.slice_bounds-pair_up-end
-slice_bounds-pair_up-end c = sym (two-long c.upper_run-digits.ensures c.if-digits-lt2.false)
-
-pub pair_up-requires : goal.pair_up-requires
-pair_up-requires c = record { line_value = two_digits _ c.upper_run-digits.ensures c.if-digits-lt2.false (λ k. (c.type_inv.text k).fits); line_in_bounds = omega (arith, two-long c.upper_run-digits.ensures c.if-digits-lt2.false) }
+pub pair_up-requires-clause-line_value : goal.pair_up-requires-clause-line_value
+pair_up-requires-clause-line_value c = two_digits _ c.upper_run.ensures c.if-upper_run-lt2.false (λ k. (c.type_inv.text k).fits)
 
 pub returns : goal.returns
 returns c = search namings

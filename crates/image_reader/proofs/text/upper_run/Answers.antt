@@ -1,6 +1,5 @@
 -- `image_reader::upper_run` meets its contract: upper-case digits alone stand before the place, which goes on by many each turn. Assumes
 -- nothing.
-use Rattle.std.proofs.Common.{◌-◌}
 use borrow.Author.Tests.{not-false}
 use Rattle.image_reader.proofs.Digits.{upper-start, upper-far}
 use Rattle.image_reader.proofs.text.upper_run.Goals as goal

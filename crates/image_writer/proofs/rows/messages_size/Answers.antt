@@ -1,5 +1,4 @@
 -- `image_writer::messages_size` meets its contract: the sizes before i are added up. Assumes nothing.
-use Prim.Native.Nat.{◌-◌}
 use native.Mathlib.Omega.{arith}
 use Rattle.datagram.specs.Sizes.{messages_limit}
 use Rattle.datagram.specs.Inner.Heads.{item_size}
@@ -33,7 +32,7 @@ pub loop-i-preserved : goal.loop-i-preserved
 loop-i-preserved c =
     let told = message-told c.args.table.now c.args.heard c.loop-i.i c.requires.table_fits c.requires.heard_lt_slots_heard (omega arith)
     c.message_size_at-octets.ensures c.item_size.ensures in
-    counted-turn c.loop-i.invariant c.loop-i-test.true told
+    counted-turn c.loop-i.invariant (omega arith) told
 
 pub returns : goal.returns
-returns c = counted-done messages_limit c.loop-i.invariant c.loop-i-test.false c.requires.m_le_messages_limit
+returns c = counted-done messages_limit c.loop-i.invariant (omega arith) c.requires.m_le_messages_limit

@@ -10,6 +10,3 @@ use Rattle.image_writer.proofs.rows.messages_size.Given as goal
 
 abbrev pub invariant-loop-i : goal.invariant-loop-i
 invariant-loop-i l = Counted (λ k. 2 * item_size (message_size_in l.table (message_slot l.heard k))) (2 * longest_item packet_limit) l.m l.size l.i
-
-abbrev pub decreases-loop-i : goal.decreases-loop-i
-decreases-loop-i l = l.m - l.i

@@ -1,5 +1,4 @@
 -- `image_writer::rows_size` meets its contract: the sizes before place p are added up. Assumes nothing.
-use Prim.Native.Nat.{◌-◌}
 use native.Mathlib.Omega.{arith}
 use Rattle.session_held.specs.Slots.{slots_kept}
 use Rattle.image_writer.proofs.Turns.{counted_start, counted-turn, counted-done}
@@ -13,7 +12,7 @@ pub overflow_add-size : goal.overflow_add-size
 overflow_add-size c = omega (arith, c.row_size-size.ensures.few, c.loop-p.invariant.few)
 
 pub loop-p-preserved : goal.loop-p-preserved
-loop-p-preserved c = counted-turn c.loop-p.invariant c.loop-p-test.true (told-size c.row_at-row.ensures c.row_size-size.ensures)
+loop-p-preserved c = counted-turn c.loop-p.invariant (omega arith) (told-size c.row_at-row.ensures c.row_size-size.ensures)
 
 pub returns : goal.returns
-returns c = counted-done slots_kept c.loop-p.invariant c.loop-p-test.false (omega arith)
+returns c = counted-done slots_kept c.loop-p.invariant (omega arith) (omega arith)

@@ -1,5 +1,4 @@
 -- `line_code::find_feed` meets its contract: no line feed stands before the place, which goes on by many each turn. Assumes nothing.
-use Prim.Native.Nat.{◌-◌}
 use borrow.Author.Tests.{not-false}
 use Rattle.line_code.proofs.FeedSteps.{begun-start, begun-far}
 use Rattle.line_code.proofs.feed.find_feed.Goals as goal

@@ -1,6 +1,5 @@
 -- `line_code::is_plain` meets its contract: the characters so far are told, one more each turn. Assumes nothing.
 use Rattle.std.proofs.Common.{rules}
-use Prim.Native.Nat.{◌-◌}
 use Rattle.line_code.proofs.FeedSteps.{plain-start, plain_turn, plain_done}
 use Rattle.line_code.proofs.feed.is_plain.Goals as goal
 

@@ -1,6 +1,5 @@
 -- `line_code::take_block` meets its contract: what is taken in so far and what is left come to the whole, line after line.
 -- Assumes nothing.
-use Prim.Native.Nat.{◌-◌}
 use native.Mathlib.Omega.{arith}
 use Rattle.line_code.proofs.FeedLoop.{left-some, left-inside, fed-start, fed-ready, fed-turn, fed-full, fed-whole}
 use Rattle.line_code.proofs.feed.take_block.Goals as goal

@@ -7,4 +7,4 @@ pub end_line-requires : goal.end_line-requires
 end_line-requires c = room-left _ 1 c.put_digits-end.ensures (omega arith)
 
 pub returns : goal.returns
-returns c = refusal-put _ c.put_digits-end.ensures c.end_line.ensures
+returns c = refusal-put _ c.number-number.ensures c.put_digits-end.ensures c.end_line.ensures

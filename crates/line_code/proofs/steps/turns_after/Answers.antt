@@ -1,9 +1,11 @@
 -- `line_code::turns_after` meets its contract: an empty line, and any other. Assumes nothing.
+use Rattle.std.proofs.Common.{sym, ◌∙◌}
+use borrow.Author.Tests.{eqb-true, eqb-false}
 use Rattle.line_code.proofs.StepLaws.{turns-none, turns-some}
 use Rattle.line_code.proofs.steps.turns_after.Goals as goal
 
-pub returns-then-line-eq0 : goal.returns-then-line-eq0
-returns-then-line-eq0 c = turns-none _ c.if-line-eq0.true
+pub returns-then-is_empty : goal.returns-then-is_empty
+returns-then-is_empty c = turns-none _ (eqb-true _ 0 (sym c.is_empty.ensures ∙ c.if-is_empty.true))
 
-pub returns : goal.returns
-returns c = turns-some _ c.if-line-eq0.false
+pub returns-else-is_empty : goal.returns-else-is_empty
+returns-else-is_empty c = turns-some _ (eqb-false _ 0 (sym c.is_empty.ensures ∙ c.if-is_empty.false))

@@ -3,11 +3,11 @@ use Rattle.std.proofs.Common.{◌-◌, rules}
 use Rattle.line_hex.proofs.HexSteps.{told-start, told-turn, told-done}
 use Rattle.line_hex.proofs.hex.all_digits.Goals as goal
 
-pub loop-i-init : goal.loop-i-init
-loop-i-init c = search told-start
+pub loop-c-init : goal.loop-c-init
+loop-c-init c = search told-start
 
-pub loop-i-preserved : goal.loop-i-preserved
-loop-i-preserved c = search (told-turn, rules)
+pub loop-c-preserved : goal.loop-c-preserved
+loop-c-preserved c = search (told-turn, rules)
 
 pub returns : goal.returns
 returns c = search told-done

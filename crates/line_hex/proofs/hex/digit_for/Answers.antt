@@ -5,5 +5,5 @@ use Rattle.line_hex.proofs.hex.digit_for.Goals as goal
 pub returns-then-n-lt10 : goal.returns-then-n-lt10
 returns-then-n-lt10 c = digit_for-low c.if-n-lt10.true
 
-pub returns : goal.returns
-returns c = digit_for-high c.if-n-lt10.false
+pub returns-else-n-lt10 : goal.returns-else-n-lt10
+returns-else-n-lt10 c = digit_for-high c.if-n-lt10.false

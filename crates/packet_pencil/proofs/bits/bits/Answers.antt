@@ -1,23 +1,18 @@
--- `packet_pencil::bits::bits` meets its contract. The loop's invariant: the bits that are left come after those that were taken. The
--- measure is how many are left. Assumes nothing.
-use Prim.Native.Nat.{◌-◌}
+-- `packet_pencil::bits::bits` meets its contract. Each answer is a law of `Taking`. Assumes nothing.
+use Rattle.std.proofs.lemmas.Result.{err_from_is_err_and}
 use Rattle.packet_pencil.proofs.Taking.{takings}
 use Rattle.packet_pencil.proofs.bits.bits.Goals as goal
 
-pub loop-k-init : goal.loop-k-init
-loop-k-init c = search takings
-
-pub returns-in-Refused : goal.returns-in-Refused
-returns-in-Refused c = search takings
-
-pub overflow_mul-value : goal.overflow_mul-value
-overflow_mul-value c = search takings
+pub returns-in_err-one : goal.returns-in_err-one
+returns-in_err-one c =
+    let p = err_from_is_err_and c.from_residual.result c.from_residual.ensures.1 in
+    rw (p.1, p.2) (search (takings, c.in_err-one.was))
 
 pub overflow_add-value : goal.overflow_add-value
-overflow_add-value c = search takings
+overflow_add-value c = search (takings, c.in_ok-one.was)
 
-pub loop-k-preserved : goal.loop-k-preserved
-loop-k-preserved c = search takings
+pub loop-preserved : goal.loop-preserved
+loop-preserved c = search (takings, c.in_ok-one.was)
 
 pub returns : goal.returns
 returns c = search takings

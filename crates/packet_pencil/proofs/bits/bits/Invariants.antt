@@ -1,11 +1,7 @@
--- `packet_pencil::bits::bits` meets its contract. The loop's invariant: the bits that are left come after those that were taken. The
--- measure is how many are left. Assumes nothing.
-use Prim.Native.Nat.{◌-◌}
+-- `packet_pencil::bits::bits` meets its contract. The loop's invariant: the bits that are left, after those that were taken, are the
+-- number. Assumes nothing.
 use Rattle.packet_pencil.proofs.Taking.{Taking}
 use Rattle.packet_pencil.proofs.bits.bits.Given as goal
 
-abbrev pub invariant-loop-k : goal.invariant-loop-k
-invariant-loop-k l = Taking l.n l.octets l.item l.at l.value l.next l.k
-
-abbrev pub decreases-loop-k : goal.decreases-loop-k
-decreases-loop-k l = l.n - l.k
+abbrev pub invariant-loop : goal.invariant-loop
+invariant-loop l = Taking l.n l.octets l.item l.at l.value l.next l.counter

@@ -1,31 +1,34 @@
--- `packet_reader::read_data` meets its contract. Each answer is a law of `ReadFields`. The sums fit because data that
--- reads ends inside the octets. Assumes nothing.
+-- `packet_reader::read_data` meets its contract. Each answer is a law of `ReadFields`. The sums fit because data that reads ends inside
+-- the octets. Assumes nothing.
+use Rattle.std.proofs.lemmas.Result.{err_from_is_err_and}
 use Rattle.packet_reader.proofs.ReadFields.{datas}
 use Rattle.packet_reader.proofs.items.read_data.Goals as goal
 
+pub returns-in_err-at : goal.returns-in_err-at
+returns-in_err-at c =
+    let p = err_from_is_err_and c.from_residual.result c.from_residual.ensures.1 in
+    rw (p.1, p.2) (search (datas, c.in_err-at.was))
+
 pub slice_bounds-read_size-count : goal.slice_bounds-read_size-count
-slice_bounds-read_size-count c = search datas
+slice_bounds-read_size-count c = search (datas, c.in_ok-at.was)
 
 pub slice_bounds-read_size-start : goal.slice_bounds-read_size-start
-slice_bounds-read_size-start c = search datas
+slice_bounds-read_size-start c = search (datas, c.in_ok-at.was)
 
 pub further-requires : goal.further-requires
-further-requires c = search datas
+further-requires c = search (datas, c.in_ok-at.was)
 
 pub overflow_add-start : goal.overflow_add-start
-overflow_add-start c = search datas
+overflow_add-start c = search (datas, c.in_ok-at.was)
 
-pub overflow_add-end : goal.overflow_add-end
-overflow_add-end c = search datas
+pub overflow_add-result : goal.overflow_add-result
+overflow_add-result c = search (datas, c.in_ok-at.was)
 
-pub overflow_mul-next : goal.overflow_mul-next
-overflow_mul-next c = search datas
+pub overflow_mul-result : goal.overflow_mul-result
+overflow_mul-result c = search (datas, c.in_ok-at.was)
 
-pub returns-in-Refused : goal.returns-in-Refused
-returns-in-Refused c = search datas
+pub returns-in-Err : goal.returns-in-Err
+returns-in-Err c = search (datas, c.in_ok-at.was)
 
-pub returns-in-Refused-read_size : goal.returns-in-Refused-read_size
-returns-in-Refused-read_size c = search datas
-
-pub returns-in-Size : goal.returns-in-Size
-returns-in-Size c = search datas
+pub returns-in-Ok : goal.returns-in-Ok
+returns-in-Ok c = search (datas, c.in_ok-at.was)

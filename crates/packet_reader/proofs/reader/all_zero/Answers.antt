@@ -1,17 +1,12 @@
--- `packet_reader::all_zero` meets its contract. The loop's invariant: what is left decides. The measure is how much
--- is left. Assumes nothing.
-use Prim.Native.Nat.{◌-◌}
-use Rattle.packet_laws.proofs.Laws.{evers}
+-- `packet_reader::all_zero` meets its contract. What the iterator tests of each octet is the definition's test. Assumes nothing.
+use Rattle.std.proofs.Common.{◌∙◌, rules, tests}
+use lib.Dec.{eqb}
+use Rattle.std.proofs.lemmas.Iterator.{YieldsList-from_slice}
+use Rattle.std.proofs.lemmas.Iterator.Search.{all_from_yields_List}
+use Rattle.packet_laws.proofs.Laws.{all-every}
 use Rattle.packet_reader.proofs.reader.all_zero.Goals as goal
 
-pub loop-i-init : goal.loop-i-init
-loop-i-init c = search evers
-
-pub returns-then-octets-i-gt0 : goal.returns-then-octets-i-gt0
-returns-then-octets-i-gt0 c = search evers
-
-pub loop-i-preserved : goal.loop-i-preserved
-loop-i-preserved c = search evers
-
 pub returns : goal.returns
-returns c = search evers
+returns c =
+    all_from_yields_List _ _ _ _ c.all.ensures.ran (YieldsList-from_slice c.args.octets.now cc) (λ x b q k. search (rules, tests))
+    ∙ all-every (λ x. eqb x 0) c.args.octets.now

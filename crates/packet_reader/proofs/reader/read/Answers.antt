@@ -4,10 +4,8 @@ use mathlib.Core.Path.{sym, ◌∙◌}
 use Rattle.packet_reader.proofs.ReadPacket.{packet-other}
 use Rattle.packet_reader.proofs.reader.read.Goals as goal
 
-pub returns-in-Edition : goal.returns-in-Edition
-returns-in-Edition c = rw (sym c.choice_of.ensures ∙ c.in-Edition.is) c.read_named.ensures.told
+pub returns-in-Some : goal.returns-in-Some
+returns-in-Some c = rw (sym c.choice_of.ensures ∙ c.in-Some.is) c.read_named.ensures.told
 
-pub returns-in-Neither : goal.returns-in-Neither
-returns-in-Neither c =
-    rw (sym c.choice_of.ensures ∙ c.in-Neither.is)
-    (packet-other c.new.ensures c.refused.ensures)
+pub returns-in-None : goal.returns-in-None
+returns-in-None c = rw (sym c.choice_of.ensures ∙ c.in-None.is) (packet-other c.new.ensures)

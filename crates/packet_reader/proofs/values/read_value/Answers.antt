@@ -2,11 +2,11 @@
 use Rattle.packet_reader.proofs.ReadValues.{values}
 use Rattle.packet_reader.proofs.values.read_value.Goals as goal
 
+pub returns-then-not-e : goal.returns-then-not-e
+returns-then-not-e c = search values
+
 pub returns-then-bit : goal.returns-then-bit
 returns-then-bit c = search values
 
-pub returns-then-e : goal.returns-then-e
-returns-then-e c = search values
-
-pub returns : goal.returns
-returns c = search values
+pub returns-else-bit : goal.returns-else-bit
+returns-else-bit c = search values

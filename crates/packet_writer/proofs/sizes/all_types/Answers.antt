@@ -1,17 +1,12 @@
--- `packet_writer::all_types` meets its contract. The loop's invariant: what is left decides. The measure is how many
--- are left. Assumes nothing.
-use Prim.Native.Nat.{◌-◌}
-use Rattle.packet_laws.proofs.Laws.{evers}
+-- `packet_writer::all_types` meets its contract. What the iterator tests of each element is the definition's test. Assumes nothing.
+use Rattle.std.proofs.Common.{◌∙◌, ◌-◌, leb, rules, tests}
+use Rattle.packet.specs.Edition.{many}
+use Rattle.std.proofs.lemmas.Iterator.{YieldsList-from_slice}
+use Rattle.std.proofs.lemmas.Iterator.Search.{all_from_yields_List}
+use Rattle.packet_laws.proofs.Laws.{all-every}
 use Rattle.packet_writer.proofs.sizes.all_types.Goals as goal
 
-pub loop-i-init : goal.loop-i-init
-loop-i-init c = search evers
-
-pub returns-then-last-types : goal.returns-then-last-types
-returns-then-last-types c = search evers
-
-pub loop-i-preserved : goal.loop-i-preserved
-loop-i-preserved c = search evers
-
 pub returns : goal.returns
-returns c = search evers
+returns c =
+    all_from_yields_List _ _ _ _ c.all.ensures.ran (YieldsList-from_slice c.args.types.now cc) (λ x b q k. search (rules, tests))
+    ∙ all-every (λ t. leb t (many c.args.known - 1)) c.args.types.now

@@ -1,12 +1,6 @@
--- `packet_writer::right_types` meets its contract. The loop's invariant: what is left of types and lengths decides.
--- The measure is how many are left. Assumes nothing.
-use Prim.Native.Nat.{◌-◌}
-use lib.ListN.{length}
+-- `packet_writer::right_types` meets its contract. The loop's invariant: what is left of types and lengths decides. Assumes nothing.
 use Rattle.packet_writer.proofs.Measure.{RightLeft}
 use Rattle.packet_writer.proofs.sizes.right_types.Given as goal
 
 abbrev pub invariant-loop-i : goal.invariant-loop-i
 invariant-loop-i l = RightLeft l.types l.lengths l.i
-
-abbrev pub decreases-loop-i : goal.decreases-loop-i
-decreases-loop-i l = length l.types - l.i

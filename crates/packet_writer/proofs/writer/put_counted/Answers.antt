@@ -6,12 +6,6 @@ use Rattle.packet_writer.proofs.writer.put_counted.Goals as goal
 pub returns-in_default : goal.returns-in_default
 returns-in_default c = search counteds
 
-pub slice_bounds-put_fields-count : goal.slice_bounds-put_fields-count
-slice_bounds-put_fields-count c = search counteds
-
-pub slice_bounds-put_fields-start : goal.slice_bounds-put_fields-start
-slice_bounds-put_fields-start c = search counteds
-
 pub put_fields-size-requires : goal.put_fields-size-requires
 put_fields-size-requires c = search counteds
 

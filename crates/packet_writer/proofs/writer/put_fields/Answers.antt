@@ -1,30 +1,17 @@
 -- `packet_writer::put_fields` meets its contract. The loop's invariant: what is left to put, put after what is there now and what
--- waits, gives the whole. The measure is how many are left. The sums fit because the fields end inside data and buffer.
+-- waits, gives the whole. The sums fit because the fields end inside data and buffer.
 -- Assumes nothing.
-use Prim.Native.Nat.{◌-◌}
 use Rattle.packet_writer.proofs.PutFields.{fills}
 use Rattle.packet_writer.proofs.writer.put_fields.Goals as goal
 
-pub loop-i-init : goal.loop-i-init
-loop-i-init c = search fills
-
 pub slice_bounds-put_field-end : goal.slice_bounds-put_field-end
 slice_bounds-put_field-end c = search fills
-
-pub slice_bounds-put_field-count-in-loop-i : goal.slice_bounds-put_field-count-in-loop-i
-slice_bounds-put_field-count-in-loop-i c = search fills
 
 pub put_field-field-requires : goal.put_field-field-requires
 put_field-field-requires c = search fills
 
 pub loop-i-preserved : goal.loop-i-preserved
 loop-i-preserved c = search fills
-
-pub slice_bounds-put_edge-count : goal.slice_bounds-put_edge-count
-slice_bounds-put_edge-count c = search fills
-
-pub slice_bounds-put_edge-start : goal.slice_bounds-put_edge-start
-slice_bounds-put_edge-start c = search fills
 
 pub put_edge-end-requires : goal.put_edge-end-requires
 put_edge-end-requires c = search fills

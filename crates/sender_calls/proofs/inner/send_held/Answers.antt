@@ -4,10 +4,10 @@ use Rattle.sender_calls.proofs.SendSteps.{packet-kept, keepings}
 use Rattle.sender_calls.proofs.inner.send_held.Goals as goal
 
 pub keep-requires : goal.keep-requires
-keep-requires c = (search rules, search packet-kept)
+keep-requires c = (search rules, packet-kept _ _ _ _ _ _ c.in_ok-n.was c.write_held.ensures)
 
-pub returns-in-Octets : goal.returns-in-Octets
-returns-in-Octets c = search keepings
+pub returns-in_err-n : goal.returns-in_err-n
+returns-in_err-n c = search (rules, keepings)
 
-pub returns-in-Refused : goal.returns-in-Refused
-returns-in-Refused c = search keepings
+pub returns : goal.returns
+returns c = search (rules, keepings)

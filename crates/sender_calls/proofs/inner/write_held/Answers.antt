@@ -15,7 +15,7 @@ pub write_next-requires : goal.write_next-requires
 write_next-requires c =
     held-asked c.args.settings c.args.sent c.args.packet.now c.args.sizes.now c.args.octets.now
     c.requires c.settings_inside.ensures c.if-not-settings_inside.false-raw c.packet_inside.ensures
-    c.if-not-packet_inside.false-raw c.kind_of-kind.ensures c.count_of-count.ensures
+    c.if-not-packet_inside.false-raw c.kind_of.ensures c.count_of.ensures
 
 pub returns : goal.returns
 returns c = search helds

@@ -5,8 +5,8 @@ use Rattle.sender_history.proofs.slots.size_right.Goals as goal
 pub returns-then-at-lt-HISTORY : goal.returns-then-at-lt-HISTORY
 returns-then-at-lt-HISTORY c = search sizings
 
-pub returns-then-size-lt-LEAST : goal.returns-then-size-lt-LEAST
-returns-then-size-lt-LEAST c = search sizings
+pub returns-then-size-ge-LEAST : goal.returns-then-size-ge-LEAST
+returns-then-size-ge-LEAST c = search sizings
 
-pub returns : goal.returns
-returns c = search sizings
+pub returns-else-size-ge-LEAST : goal.returns-else-size-ge-LEAST
+returns-else-size-ge-LEAST c = search sizings

@@ -5,11 +5,11 @@ use Rattle.session_calls.proofs.receiver.offer.Goals as goal
 
 pub offer_core-answer-requires : goal.offer_core-answer-requires
 offer_core-answer-requires c =
-    within-session c.in_ranges.ensures c.if-in_ranges.true
+    within-session c.in_ranges.ensures c.if-not-in_ranges.false
     (record { table = search rules; octets = search rules; messages = search rules })
 
-pub returns-then-in_ranges : goal.returns-then-in_ranges
-returns-then-in_ranges c = search calls
+pub returns-then-not-in_ranges : goal.returns-then-not-in_ranges
+returns-then-not-in_ranges c = search calls
 
 pub returns : goal.returns
 returns c = search calls

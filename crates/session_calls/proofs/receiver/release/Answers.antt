@@ -5,11 +5,11 @@ use Rattle.session_calls.proofs.receiver.release.Goals as goal
 
 pub release_core-done-requires : goal.release_core-done-requires
 release_core-done-requires c =
-    within-session c.in_ranges.ensures c.if-in_ranges.true
+    within-session c.in_ranges.ensures c.if-not-in_ranges.false
     (record { table = search rules; octets = search rules; messages = search rules })
 
-pub returns-then-in_ranges : goal.returns-then-in_ranges
-returns-then-in_ranges c = search calls
+pub returns-then-not-in_ranges : goal.returns-then-not-in_ranges
+returns-then-not-in_ranges c = search calls
 
 pub returns : goal.returns
 returns c = search calls

@@ -6,11 +6,11 @@ use Rattle.session_calls.proofs.solver.solve.Goals as goal
 
 pub solve_core-answer-requires : goal.solve_core-answer-requires
 solve_core-answer-requires c =
-    within-session c.in_ranges.ensures c.if-in_ranges.true
+    within-session c.in_ranges.ensures c.if-not-in_ranges.false
     (record { table = search rules; octets = search rules; messages = search rules })
 
-pub returns-then-in_ranges : goal.returns-then-in_ranges
-returns-then-in_ranges c = search solves
+pub returns-then-not-in_ranges : goal.returns-then-not-in_ranges
+returns-then-not-in_ranges c = search solves
 
 pub returns : goal.returns
 returns c = search solves

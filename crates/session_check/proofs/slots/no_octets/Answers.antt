@@ -1,6 +1,5 @@
--- `session_check::no_octets` meets its contract. The loop's invariant: ok says whether the octets below k are zero. The measure is the
--- octets left. Assumes nothing.
-use Rattle.std.proofs.Common.{◌-◌, arith}
+-- `session_check::no_octets` meets its contract. The loop's invariant: ok says whether the octets below k are zero. Assumes nothing.
+use Rattle.std.proofs.Common.{arith}
 use Rattle.session_check.proofs.Turns.{checked-start, octet-turn, octets-done}
 use Rattle.session_check.proofs.slots.no_octets.Goals as goal
 

@@ -1,6 +1,6 @@
--- `session_check::no_sizes` meets its contract. The loop's invariant: ok says whether the messages below i have no length. The measure is
--- the messages left. Assumes nothing.
-use Rattle.std.proofs.Common.{◌-◌, arith}
+-- `session_check::no_sizes` meets its contract. The loop's invariant: ok says whether the messages below i have no length. Assumes
+-- nothing.
+use Rattle.std.proofs.Common.{arith}
 use Rattle.session_check.proofs.Turns.{checked-start, sizeless-turn, checked-done}
 use Rattle.session_check.proofs.slots.no_sizes.Goals as goal
 

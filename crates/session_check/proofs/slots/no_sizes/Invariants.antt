@@ -1,6 +1,5 @@
--- `session_check::no_sizes` meets its contract. The loop's invariant: ok says whether the messages below i have no length. The measure is
--- the messages left. Assumes nothing.
-use Rattle.std.proofs.Common.{◌-◌}
+-- `session_check::no_sizes` meets its contract. The loop's invariant: ok says whether the messages below i have no length. Assumes
+-- nothing.
 use Rattle.datagram.specs.Sizes.{messages_limit}
 use Rattle.session_check.specs.Pieces.{sizeless}
 use Rattle.session_check.proofs.Turns.{Checked}
@@ -8,6 +7,3 @@ use Rattle.session_check.proofs.slots.no_sizes.Given as goal
 
 abbrev pub invariant-loop-i : goal.invariant-loop-i
 invariant-loop-i l = Checked messages_limit (sizeless l.table l.slot) l.ok l.i
-
-abbrev pub decreases-loop-i : goal.decreases-loop-i
-decreases-loop-i l = messages_limit - l.i

@@ -12,7 +12,7 @@ returns c =
     (record {
       base = refl;
       counts = refl;
-      table = c.fresh_table-table.ensures;
+      table = c.fresh_table.ensures;
       octets = λ k. replicate-at kept_octets 0 k;
       messages = λ k. replicate-at message_octets 0 k;
       packets_long = length-replicate {A = ℕ} kept_octets 0;

@@ -1,6 +1,5 @@
 -- `session_held::Session::fresh_table` meets its contract. The loop's invariant: the states of numbers from the base on are 0, then blank
--- ones up to slot i, and zeros follow. The measure is the slots left to lay. Assumes nothing.
-use Prim.Native.Nat.{◌-◌}
+-- ones up to slot i, and zeros follow. Assumes nothing.
 use Rattle.session_held.proofs.FreshSession.{starting-start, starting-turn, starting-done}
 use Rattle.session_held.proofs.Session.fresh_table.Goals as goal
 

@@ -1,6 +1,5 @@
--- `session_offer::keep_spares` meets its contract: after j turns j spares are kept. The measure is what is left of the count. Assumes
--- nothing.
-use Rattle.std.proofs.Common.{◌-◌, rules}
+-- `session_offer::keep_spares` meets its contract: after j turns j spares are kept. Assumes nothing.
+use Rattle.std.proofs.Common.{rules}
 use Rattle.session_offer.proofs.Keeping.{fills, spare-noted}
 use Rattle.session_offer.proofs.Sparing.{sparing-start, sparing-long, sparing-octets, sparing-may, sparing-part}
 use Rattle.session_offer.proofs.Sparing.{sparing-turn}

@@ -1,11 +1,6 @@
--- `session_offer::keep_spares` meets its contract: after j turns j spares are kept. The measure is what is left of the count. Assumes
--- nothing.
-use Rattle.std.proofs.Common.{◌-◌}
+-- `session_offer::keep_spares` meets its contract: after j turns j spares are kept. Assumes nothing.
 use Rattle.session_offer.proofs.Sparing.{Sparing}
 use Rattle.session_offer.proofs.kept.keep_spares.Given as goal
 
 abbrev pub invariant-loop-j : goal.invariant-loop-j
 invariant-loop-j l = Sparing l.number l.s l.items l.count l.initial.table l.initial.octets l.table l.octets l.at l.j
-
-abbrev pub decreases-loop-j : goal.decreases-loop-j
-decreases-loop-j l = l.count - l.j

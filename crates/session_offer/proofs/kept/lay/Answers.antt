@@ -1,6 +1,5 @@
--- `session_offer::lay` meets its contract: after i turns i messages are laid and every other slot is as it was. The measure is what is
--- left of the count. Assumes nothing.
-use Rattle.std.proofs.Common.{◌-◌}
+-- `session_offer::lay` meets its contract: after i turns i messages are laid and every other slot is as it was. Assumes
+-- nothing.
 use Rattle.session_offer.proofs.Laying.{layings}
 use Rattle.session_offer.proofs.kept.lay.Goals as goal
 

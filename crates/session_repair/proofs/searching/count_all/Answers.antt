@@ -1,5 +1,4 @@
 -- `session_repair::searching::count_all` meets its contract: what is counted so far is the sum of the slots so far. Assumes nothing.
-use Rattle.std.proofs.Common.{◌-◌}
 use Rattle.session_repair.proofs.Totals.{totalling-start, totalling-turn, totalling-done}
 use Rattle.session_repair.proofs.searching.count_all.Goals as goal
 

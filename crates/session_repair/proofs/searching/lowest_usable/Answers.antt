@@ -6,8 +6,8 @@ use Rattle.session_repair.proofs.searching.lowest_usable.Goals as goal
 pub returns-then-count-eq0 : goal.returns-then-count-eq0
 returns-then-count-eq0 c = lowest-empty c.heard_slot-slot.ensures c.m_at-count.ensures c.if-count-eq0.true
 
-pub narrow-m-requires : goal.narrow-m-requires
-narrow-m-requires c = small_count c.requires (omega (arith, c.heard_slot-slot.ensures)) c.m_at-count.ensures
+pub narrow-requires : goal.narrow-requires
+narrow-requires c = small_count c.requires (omega (arith, c.heard_slot-slot.ensures)) c.m_at-count.ensures
 
 pub lowest_among-requires : goal.lowest_among-requires
-lowest_among-requires c = seeable c.requires c.heard_slot-slot.ensures c.m_at-count.ensures c.n_at-n.ensures c.narrow-m.ensures
+lowest_among-requires c = seeable c.requires c.heard_slot-slot.ensures c.m_at-count.ensures c.n_at-n.ensures c.narrow.ensures

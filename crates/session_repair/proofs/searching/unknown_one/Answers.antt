@@ -2,8 +2,8 @@
 use Rattle.session_repair.proofs.Turns.{one-unknown, one_known}
 use Rattle.session_repair.proofs.searching.unknown_one.Goals as goal
 
-pub returns-then-state-eq-UNKNOWN : goal.returns-then-state-eq-UNKNOWN
-returns-then-state-eq-UNKNOWN c = search one-unknown
+pub returns-then-state_at-eq-UNKNOWN : goal.returns-then-state_at-eq-UNKNOWN
+returns-then-state_at-eq-UNKNOWN c = search one-unknown
 
-pub returns : goal.returns
-returns c = search one_known
+pub returns-else-state_at-eq-UNKNOWN : goal.returns-else-state_at-eq-UNKNOWN
+returns-else-state_at-eq-UNKNOWN c = search one_known

@@ -5,5 +5,5 @@ use Rattle.solve_code.proofs.equations.one_unless.Goals as goal
 pub returns-then-known : goal.returns-then-known
 returns-then-known c = search ones
 
-pub returns : goal.returns
-returns c = search ones
+pub returns-else-known : goal.returns-else-known
+returns-else-known c = search ones

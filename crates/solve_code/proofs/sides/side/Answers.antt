@@ -11,20 +11,20 @@ asked-requires c =
       distance_lt_kept_ahead = omega (arith, c.requires.e_lt_table_rows);
       index_lt_messages_limit = omega (arith, c.requires.e_lt_table_rows);
       index_bound =
-          index-there c.args.base c.args.table.now c.requires.e_lt_table_rows refl refl refl c.wrapping_add_u16-at.ensures.value
+          index-there c.args.base c.args.table.now c.requires.e_lt_table_rows refl refl refl refl
           c.heard_slot-slot.ensures
-          c.m_at-count.ensures
-          c.if-index-count.true;
+          c.m_at.ensures
+          c.if-index-m_at.true;
       width_le_packet_limit = omega arith;
     }
 
-pub returns-then-index-count : goal.returns-then-index-count
-returns-then-index-count c =
-    side-there c.args.base _ c.requires.e_lt_table_rows refl refl refl c.wrapping_add_u16-at.ensures.value c.heard_slot-slot.ensures
-    c.m_at-count.ensures c.if-index-count.true c.asked.ensures
+pub returns-then-index-m_at : goal.returns-then-index-m_at
+returns-then-index-m_at c =
+    side-there c.args.base _ c.requires.e_lt_table_rows refl refl refl refl c.heard_slot-slot.ensures
+    c.m_at.ensures c.if-index-m_at.true c.asked.ensures
 
-pub returns : goal.returns
+pub returns-else-index-m_at : goal.returns-else-index-m_at
 unfolding zeros
-returns c =
-    side-none c.args.base _ c.requires.e_lt_table_rows refl refl refl c.wrapping_add_u16-at.ensures.value c.heard_slot-slot.ensures
-    c.m_at-count.ensures _ _ c.if-index-count.false
+returns-else-index-m_at c =
+    side-none c.args.base _ c.requires.e_lt_table_rows refl refl refl refl c.heard_slot-slot.ensures
+    c.m_at.ensures _ _ c.if-index-m_at.false

@@ -5,5 +5,5 @@ use Rattle.trace_compare_code.proofs.differing.put_row.Goals as goal
 pub returns-then-applies : goal.returns-then-applies
 returns-then-applies c = row_put _ _ c.if-applies.true c.put_entry.ensures
 
-pub returns : goal.returns
-returns c = row-none _ _ c.if-applies.false c.requires
+pub returns-else-applies : goal.returns-else-applies
+returns-else-applies c = row-none _ _ c.if-applies.false c.requires

@@ -1,6 +1,5 @@
 -- `trace_compare_code::list_first` meets its contract. The invariant: what is listed, and what is still to come, are all entries. Assumes
 -- nothing.
-use Prim.Native.Nat.{◌-◌}
 use native.Mathlib.Omega.{arith}
 use Rattle.trace_compare_code.proofs.FirstLines.{kept-long, kept_at, first-start, first-long, first-turn, first-all}
 use Rattle.trace_compare_code.proofs.listing.list_first.Goals as goal

@@ -1,6 +1,5 @@
 -- `trace_compare_code::list_second` meets its contract. The invariant: what is listed, and what is still to come, are all entries. Assumes
 -- nothing.
-use Prim.Native.Nat.{◌-◌}
 use native.Mathlib.Omega.{arith}
 use Rattle.trace_compare_code.proofs.SecondLines.{second-start, second-long, second-turn, second-all}
 use Rattle.trace_compare_code.proofs.listing.list_second.Goals as goal

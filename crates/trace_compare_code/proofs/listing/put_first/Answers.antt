@@ -28,7 +28,7 @@ returns-then-j-b c =
     puts-pair c.requires.kept_trace c.requires.kept_trace_2 _ c.count_of-k.ensures c.find_kth-j.ensures c.if-j-b.true
     c.put_pair.ensures
 
-pub returns : goal.returns
-returns c =
+pub returns-else-j-b : goal.returns-else-j-b
+returns-else-j-b c =
     puts-only c.requires.kept_trace c.requires.kept_trace_2 _ c.count_of-k.ensures c.find_kth-j.ensures c.if-j-b.false
     c.put_entry.ensures

@@ -12,5 +12,5 @@ slice_bounds-count_of-end c = sym (length-take-le _ _ (omega (arith, c.requires.
 pub returns-then-k-all : goal.returns-then-k-all
 returns-then-k-all c = second-pairs _ _ _ c.count_of-k.ensures c.count_of-all.ensures c.if-k-all.true c.requires.entry_room_in_bounds
 
-pub returns : goal.returns
-returns c = second-only _ _ _ c.count_of-k.ensures c.count_of-all.ensures c.if-k-all.false c.put_entry.ensures
+pub returns-else-k-all : goal.returns-else-k-all
+returns-else-k-all c = second-only _ _ _ c.count_of-k.ensures c.count_of-all.ensures c.if-k-all.false c.put_entry.ensures

@@ -1,5 +1,4 @@
 -- `trace_compare_code::count_lines` meets its contract. The invariant: the lines so far and those that are left are all. Assumes nothing.
-use Prim.Native.Nat.{◌-◌}
 use native.Mathlib.Omega.{arith}
 use Rattle.trace_compare_code.proofs.Cutting.{lines_start, lines-turn, lines-all}
 use Rattle.trace_compare_code.proofs.reading.count_lines.Goals as goal

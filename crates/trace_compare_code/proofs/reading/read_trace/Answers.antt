@@ -1,7 +1,6 @@
 -- `trace_compare_code::read_trace` meets its contract. The invariant: what is kept, and what is still to be read, are the whole trace.
 -- Assumes nothing.
 use Rattle.std.proofs.Common.{rules}
-use Prim.Native.Nat.{◌-◌}
 use mathlib.Core.Path.{refl}
 use native.Mathlib.Omega.{arith}
 use Rattle.trace_compare_code.proofs.Turning.{read-start, turn-room, turn_on, turn-refused, read_all}
@@ -10,11 +9,11 @@ use Rattle.trace_compare_code.proofs.reading.read_trace.Goals as goal
 pub loop-at-init : goal.loop-at-init
 loop-at-init c = (read-start _ _ _ _ c.requires, refl, refl)
 
-pub keep_line-kept-requires : goal.keep_line-kept-requires
-keep_line-kept-requires c = turn-room c.loop-at.invariant.0 c.line_at-here.ensures
+pub keep_line-requires : goal.keep_line-requires
+keep_line-requires c = turn-room c.loop-at.invariant.0 c.line_at-here.ensures
 
-pub returns-in-Refused : goal.returns-in-Refused
-returns-in-Refused c = turn-refused c.loop-at.invariant.0 c.line_at-here.ensures c.keep_line-kept.ensures c.in-Refused.is
+pub returns-in-Err : goal.returns-in-Err
+returns-in-Err c = turn-refused c.loop-at.invariant.0 c.line_at-here.ensures c.keep_line.ensures c.in-Err.is
 
 pub overflow_add-line : goal.overflow_add-line
 overflow_add-line c =
@@ -26,7 +25,7 @@ loop-at-smaller c = omega (arith, c.line_at-here.ensures.on, c.line_at-here.ensu
 
 pub loop-at-preserved : goal.loop-at-preserved
 loop-at-preserved c =
-    let now = turn_on c.loop-at.invariant.0 c.line_at-here.ensures c.keep_line-kept.ensures c.in-Count.is in
+    let now = turn_on c.loop-at.invariant.0 c.line_at-here.ensures c.keep_line.ensures c.in-Ok.is in
     (now, search rules, search rules)
 
 pub returns : goal.returns

@@ -1,10 +1,7 @@
 -- `trace_compare_code::list_all` meets its contract: the entries are gathered, then laid into the lent list, if they fit. Assumes nothing.
 use native.Mathlib.Omega.{arith}
-use Rattle.trace_compare_code.proofs.Whole.{room-second, both-listed, size-inside, size-long, list_full, list_put}
+use Rattle.trace_compare_code.proofs.Whole.{room-second, both-listed, list_full, list_put}
 use Rattle.trace_compare_code.proofs.traces.list_all.Goals as goal
-
-pub list_first-end-requires : goal.list_first-end-requires
-list_first-end-requires c = record { kept_trace = c.requires.kept_trace; kept_trace_2 = c.requires.kept_trace_2; a_in_bounds = omega (arith, c.requires.a_len_bound) }
 
 pub list_second-size-requires : goal.list_second-size-requires
 list_second-size-requires c = room-second c.requires.kept_trace c.requires.kept_trace_2 c.list_first-end.ensures c.requires.a_len_bound c.requires.b_len_bound (omega arith)
@@ -14,18 +11,7 @@ returns-then-list-size c =
     list_full _ _ (both-listed c.requires.kept_trace c.requires.kept_trace_2 c.list_first-end.ensures c.list_second-size.ensures)
     c.if-list-size.true c.no_line.ensures
 
-pub slice_bounds-found-end : goal.slice_bounds-found-end
-slice_bounds-found-end c = size-inside _ _ (both-listed c.requires.kept_trace c.requires.kept_trace_2 c.list_first-end.ensures c.list_second-size.ensures)
-
-pub slice_bounds-put_numbers-end : goal.slice_bounds-put_numbers-end
-slice_bounds-put_numbers-end c = size-long _ _ (both-listed c.requires.kept_trace c.requires.kept_trace_2 c.list_first-end.ensures c.list_second-size.ensures)
-
-pub put_numbers-requires : goal.put_numbers-requires
-put_numbers-requires c =
-    let long = size-long _ _ (both-listed c.requires.kept_trace c.requires.kept_trace_2 c.list_first-end.ensures c.list_second-size.ensures) in
-    omega (arith, long, c.if-list-size.false)
-
 pub returns : goal.returns
 returns c =
-    list_put _ _ (both-listed c.requires.kept_trace c.requires.kept_trace_2 c.list_first-end.ensures c.list_second-size.ensures) c.if-list-size.false
-    c.put_numbers.ensures
+    list_put _ _ (both-listed c.requires.kept_trace c.requires.kept_trace_2 c.list_first-end.ensures c.list_second-size.ensures)
+    c.if-list-size.false c.copy_from_slice.ensures.after

@@ -2,8 +2,8 @@
 use Rattle.trace_replay_code.proofs.Fronts.{is_read, is-refused}
 use Rattle.trace_replay_code.proofs.dropping.is_datagram.Goals as goal
 
-pub returns-in-Datagram : goal.returns-in-Datagram
-returns-in-Datagram c = is_read c.read-found.ensures c.in-Datagram.is
+pub returns-in-Ok : goal.returns-in-Ok
+returns-in-Ok c = is_read c.read.ensures c.in-Ok.is
 
-pub returns-in-Refused : goal.returns-in-Refused
-returns-in-Refused c = is-refused c.read-found.ensures c.in-Refused.is
+pub returns-in-Err : goal.returns-in-Err
+returns-in-Err c = is-refused c.read.ensures c.in-Err.is

@@ -1,6 +1,5 @@
 -- `trace_replay_code::playing::play` meets its contract. The invariant: the text so far, and what is still to come of the rest of the
 -- trace, are the whole replay. The measure is what is left of the trace. Assumes nothing.
-use Prim.Native.Nat.{◌-◌}
 use native.Mathlib.Omega.{arith}
 use Rattle.trace_replay_code.proofs.Loop.{playing-start, playing-long, playing-able, line-inside, line-long, line-room}
 use Rattle.trace_replay_code.proofs.Loop.{playing-turn, playing-full, playing-done}

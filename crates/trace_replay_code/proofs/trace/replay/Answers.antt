@@ -11,10 +11,10 @@ slice_bounds-play_aside-end-2 c = sym (front_long kept_aside c.args.out.now c.if
 pub play_aside-first-requires : goal.play_aside-first-requires
 play_aside-first-requires c = omega (arith, front_long kept_aside c.args.out.now c.if-out-le-KEPT.false)
 
-pub returns-in-Done : goal.returns-in-Done
-returns-in-Done c = front-done kept_aside _ c.if-out-le-KEPT.false c.play_aside-first.ensures c.in-Done.is
+pub returns-in-Ok : goal.returns-in-Ok
+returns-in-Ok c = front-done kept_aside _ c.if-out-le-KEPT.false c.play_aside-first.ensures c.in-Ok.is
 
-pub returns-in-Refused : goal.returns-in-Refused
-returns-in-Refused c =
-    front-full kept_aside _ c.if-out-le-KEPT.false c.play_aside-first.ensures c.in-Refused.is
+pub returns-in-Err : goal.returns-in-Err
+returns-in-Err c =
+    front-full kept_aside _ c.if-out-le-KEPT.false c.play_aside-first.ensures c.in-Err.is
     c.play_measured.ensures

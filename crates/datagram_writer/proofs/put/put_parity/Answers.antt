@@ -1,6 +1,0 @@
--- `datagram_writer::put_parity` meets its contract. Assumes nothing.
-use Rattle.datagram_writer.proofs.PutSteps.{puts}
-use Rattle.datagram_writer.proofs.put.put_parity.Goals as goal
-
-pub returns : goal.returns
-returns c = search puts

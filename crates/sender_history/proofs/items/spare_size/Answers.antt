@@ -1,6 +1,0 @@
--- `sender_history::spare_size` meets its contract. Assumes nothing.
-use Rattle.sender_history.proofs.ItemSteps.{one_puts}
-use Rattle.sender_history.proofs.items.spare_size.Goals as goal
-
-pub returns : goal.returns
-returns c = search one_puts

@@ -1,6 +1,0 @@
--- `solve_algebra::combined` meets its contract. Assumes nothing.
-use Rattle.solve_algebra.proofs.Turns.{combines}
-use Rattle.solve_algebra.proofs.combined.Goals as goal
-
-pub returns : goal.returns
-returns c = search combines
