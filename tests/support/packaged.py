@@ -115,8 +115,8 @@ def numbers_agree(header=TOP / 'include/tubarexi.h'):
         found = re.search(r'^impl %s \{(.*?)^\}' % struct, (TOP / 'crates' / file).read_text(), re.M | re.S)
         return {name: int(value) for name, value in constants.findall(found.group(1))}
 
-    reasons = re.search(r'^pub enum Reason \{(.*?)^\}', (TOP / 'crates/length/src/lib.rt').read_text(), re.M | re.S)
-    asked = {re.sub(r'\B([A-Z])', r'_\1', name).upper(): int(number) for name, number in re.findall(r'(\w+) = ([0-9]+),', reasons.group(1))}
+    told = (TOP / 'crates/length/src/lib.rt').read_text()
+    asked = {re.sub(r'\B([A-Z])', r'_\1', name).upper(): int(number) for name, number in re.findall(r'Reason::(\w+) => ([0-9]+),', told)}
     asked.update((name, declared(file, struct)[constant]) for name, file, struct, constant in SIZES)
     asked['KEPT'] = declared('session_held/src/lib.rt', 'Session')['BEFORE'] + asked['HEARD']
     asked.update((name.upper().replace('-', '_'), number) for names in rules_names().values() for number, name in enumerate(names))

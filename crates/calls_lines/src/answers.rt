@@ -26,10 +26,17 @@ pub fn say_all(out: &mut Out, octets: &[u8]) {
     }
 }
 
-// Writes each number of a list in two octets.
+// Writes each number of a list in two octets, high octet first, many at a time.
 pub fn say_numbers(out: &mut Out, numbers: &[u16]) {
-    for n in numbers {
-        say_all(out, &n.to_be_bytes());
+    let mut octets = [0u8; SOME];
+    for some in numbers.chunks(SOME / 2) {
+        for (i, n) in some.iter().enumerate() {
+            let [high, low] = n.to_be_bytes();
+            octets[2 * i] = high;
+            octets[2 * i + 1] = low;
+        }
+        let size = octets.len().min(2 * some.len());
+        say_all(out, &octets[..size]);
     }
 }
 

@@ -10,9 +10,9 @@ use lib.Seq.{take_all}
 use native.Mathlib.Omega.{arith}
 use borrow.Author.Tests.{lt-ltb, le-ltb, le-leb, lt-leb, eq-eqb, ne_eqb}
 use Rattle.length.specs.Refusals.{further, ends_early, outside_sizes, spare_bit}
-use Rattle.length.specs.Answers.{done, refused, read_from, length_outcome}
+use Rattle.length.specs.Answers.{done, refused, read_from, length_outcome, refusal_of}
 use Rattle.length.specs.Length.{within, length_within}
-use Rattle.length.specs.Promise.{WithinRead, Octet, RefusalPlaced}
+use Rattle.length.specs.Promise.{WithinRead, Octet, RefusalPlaced, RefusalTold}
 use Rattle.length.specs.declared.Refusal.{Refusal}
 use Rattle.length.specs.declared.Length.{Length}
 use Rattle.length.proofs.Laws.{from_front, allowed-met, allowed-not, within-front}
@@ -51,6 +51,14 @@ pub read-front : {least most : ℕ} {s : List ℕ} {found : Result Length Refusa
     → found ≡ Err why → why.place ≡ 0
 read-front {least} {most} {s} {why = why} read is = (within-front least most s).front why (sym read.answer ∙ ap length_outcome is)
 
+-- what a refused length says is its refusal
+told-whole : {found : Result Length Refusal} {why told : Refusal} → found ≡ Err why → RefusalTold found told → told ≡ why
+told-whole is told = told.answer ∙ ap refusal_of is
+
+pub told-front : {least most : ℕ} {s : List ℕ} {found : Result Length Refusal} {why told : Refusal} → WithinRead least most s found
+    → found ≡ Err why → RefusalTold found told → told.place ≡ 0
+told-front read is told = ap (λ (x : Refusal). x.place) (told-whole is told) ∙ read-front read is
+
 -- and that is the rest from a place on
 left-read : {least most : ℕ} (s : List ℕ) (at : ℕ) {found : Result Length Refusal} → WithinRead least most (take (length s - at) (drop at s)) found
     → length_outcome found ≡ length_within least most (drop at s)
@@ -63,9 +71,10 @@ module _ {least most : ℕ} {s : List ℕ} {at : ℕ} {found : Result Length Ref
     pub length-read : {l : Length} → found ≡ Ok l → LengthTold least most s at (Ok l)
     length-read is = record { answer = ap (read_from at) (sym (ap length_outcome is) ∙ left-read s at read) }
 
-    pub length-placed : {why r : Refusal} → found ≡ Err why → r ≡ further at why → LengthTold least most s at (Err r)
-    length-placed is passed =
-        record { answer = ap (λ (r : Refusal). refused r) passed ∙ ap (read_from at) (sym (ap length_outcome is) ∙ left-read s at read) }
+    pub length-placed : {why told r : Refusal} → found ≡ Err why → RefusalTold found told → r ≡ further at told → LengthTold least most s at (Err r)
+    length-placed is told passed =
+        let moved = passed ∙ ap (further at) (told-whole is told) in
+        record { answer = ap (λ (r : Refusal). refused r) moved ∙ ap (read_from at) (sym (ap length_outcome is) ∙ left-read s at read) }
 
 pub ruleset rests = (length-read, length-placed)
 

@@ -1,5 +1,5 @@
 // The datagram reader (rule 4.15). It makes one pass over the octets and copies none of them: it reports what it read as parts of the
-// input (rule 4.23). It does not read inside a packet (rule 4.22).
+// input (rule 4.23). It does not read inside a packet (rule 4.22). The length's answer is taken apart by `let else` (rule 30.4).
 ghost use Rattle.std.specs.Prelude.{◌≡◌, ◌+◌, ◌*◌, ◌≤◌, length};
 ghost use Rattle.datagram.specs.Read.{least_of, most_of};
 ghost use Rattle.datagram.specs.Promise.{DatagramReads};
@@ -39,15 +39,16 @@ fn octet_at(octets: &[u8], at: usize, least: usize, most: usize) -> Result<Lengt
     Err(Refusal::at(Reason::OutsideSizes, at))
 }
 
-// A length or count from least to most; a refusal is passed up with its place moved (rules 3.9 and 30.4).
+// A length or count from least to most; a refusal is passed up with its place moved (rule 3.9).
 fn length_at(octets: &[u8], at: usize, least: usize, most: usize) -> Result<Length, Refusal>
     requires { at ≤ length octets.now }
     ensures { LengthTold least most octets.now at result }
 {
-    match length_code::read_within(&octets[at..], least, most) {
-        Ok(found) => Ok(found),
-        Err(why) => Err(why.further(at)),
-    }
+    let read = length_code::read_within(&octets[at..], least, most);
+    let Ok(found) = read else {
+        return Err(Length::refusal(read).further(at));
+    };
+    Ok(found)
 }
 
 // A packet, spare or message: its length, then its octets (rules 2.28 and 3.6).

@@ -4,6 +4,7 @@
 use Rattle.std.proofs.Common.{Result}
 use Prim.Native.Nat.{ℕ, ◌+◌, ◌≤◌, ◌<◌}
 use mathlib.Core.Path.{◌≡◌, refl, sym, ap, subst, ◌∙◌}
+use mathlib.Core.Bool.{Bool, true, false}
 use mathlib.Core.Logic.{◌⊎◌, inl, inr, ⊎_elim}
 use mathlib.Core.List.{List, [], ◌∷◌, ◌++◌, append-nil}
 use mathlib.Core.Option.{Option, none, some}
@@ -61,6 +62,11 @@ reason-in (refused why) = refl
 whole-right : {s : List ℕ} {n : Reason} → WholeDatagram s → FirstWrong s n → ⊥
 whole-right whole w = not_none refl (one-walk (whole_walks whole) (wrong-walks w))
 
+-- whether the rules give a reason's number
+is_assigned : Reason → Bool
+is_assigned (reason.Unassigned n) = false
+is_assigned why = true
+
 -- a reason is 1 or another
 early_or_not : (n : Reason) → (n ≡ ends_early) ⊎ (n ≡ ends_early → ⊥)
 early_or_not reason.EndsEarly = inl refl
@@ -84,6 +90,7 @@ early_or_not reason.BadImage = inr (λ e. let same = ap number_of e in omega ari
 early_or_not reason.OtherEdition = inr (λ e. let same = ap number_of e in omega arith)
 early_or_not reason.TooManyLines = inr (λ e. let same = ap number_of e in omega arith)
 early_or_not reason.NoSolution = inr (λ e. let same = ap number_of e in omega arith)
+early_or_not (reason.Unassigned n) = inr (λ e. let same = ap is_assigned e in cc)
 
 -- ---- the reader
 module _ (s : List ℕ) (octets : Octets s) where

@@ -18,8 +18,11 @@ told-one r q a b = a ∙ sym b
 by_lengths : ToldByLengths
 by_lengths =
     record {
+      reason_number = λ why. told-one;
+      reason_numbered = λ number. told-one;
       refusal = λ number r q a b. a.answer ∙ sym b.answer;
       refusal_at = λ number place r q a b. a.answer ∙ sym b.answer;
+      refusal_number = λ why. told-one;
       refusal_further = λ start why. told-one;
       length_two_from = told-one;
       length_limit = told-one;

@@ -22,13 +22,14 @@ pub fn say_failed(rt: &HostRuntime, path: &[u8], what: &[u8], why: io::Error) {
     say(rt, b"\n");
 }
 
+// In one write, so that no other text comes between.
 fn say_meaning(rt: &HostRuntime, reason: Reason) {
     let meaning = match reason {
-        Reason::OutsideRanges => "a session outside its ranges",
-        Reason::OtherEdition => "an image of a version that is not known here",
-        _ => "a line is missing, extra or misshapen",
+        Reason::OutsideRanges => ", a session outside its ranges\n",
+        Reason::OtherEdition => ", an image of a version that is not known here\n",
+        _ => ", a line is missing, extra or misshapen\n",
     };
-    let _ = writeln!(rt.stderr(), ", {meaning}");
+    say(rt, meaning.as_bytes());
 }
 
 // A text that is refused as an image.

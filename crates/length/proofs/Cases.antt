@@ -13,6 +13,7 @@ number-cases =
       to-18 = refl;
       to-23 = refl;
       names = refl;
+      others = refl;
     }
 
 read-cases : ReadCases

@@ -10,7 +10,7 @@ use Rattle.length.specs.Answers.{written_outcome, fitted, size_of, over}
 use Rattle.length.specs.Tables.{when, first, unless, refusal_in, place_in, room_row}
 use Rattle.length.specs.Length.{length_limit, length_at, length_within, length_to_write}
 
--- rules 2.1 to 2.23: the number of each refusal; 11 is retired, and there is no 19
+-- rules 2.1 to 2.23: the number of each refusal; 11 is retired, and there is no 19. A number that the rules do not give stays what it is
 pub record NumberCases : Type 0 where
   pub to-6 : map number_of (ends_early ∷ too_long ∷ bad_form ∷ outside_sizes ∷ spare_bit ∷ left_over ∷ []) ≡ 1 ∷ 2 ∷ 3 ∷ 4 ∷ 5 ∷ 6 ∷ []
   pub to-10 : map number_of (repeated ∷ too_far ∷ late ∷ base_unknown ∷ []) ≡ 7 ∷ 8 ∷ 9 ∷ 10 ∷ []
@@ -19,6 +19,7 @@ pub record NumberCases : Type 0 where
   pub to-23 : map number_of (bad_image ∷ other_edition ∷ too_many_lines ∷ no_solution ∷ []) ≡ 20 ∷ 21 ∷ 22 ∷ 23 ∷ []
   pub names : map (λ n. number_of (numbered n)) (1 ∷ 2 ∷ 3 ∷ 4 ∷ 5 ∷ 6 ∷ 7 ∷ 8 ∷ 9 ∷ 10 ∷ 12 ∷ 13 ∷ 14 ∷ 15 ∷ 16 ∷ 17 ∷ 18 ∷ 20 ∷ 21 ∷ 22 ∷ 23 ∷ [])
       ≡ 1 ∷ 2 ∷ 3 ∷ 4 ∷ 5 ∷ 6 ∷ 7 ∷ 8 ∷ 9 ∷ 10 ∷ 12 ∷ 13 ∷ 14 ∷ 15 ∷ 16 ∷ 17 ∷ 18 ∷ 20 ∷ 21 ∷ 22 ∷ 23 ∷ []
+  pub others : map (λ n. number_of (numbered n)) (0 ∷ 11 ∷ 19 ∷ 24 ∷ 255 ∷ []) ≡ 0 ∷ 11 ∷ 19 ∷ 24 ∷ 255 ∷ []
 
 -- a length that is read: its value, and how many octets it has
 abbrev pub found : ℕ → ℕ → Answer LengthAnswer

@@ -111,8 +111,9 @@ number_of reason.BadImage = 20
 number_of reason.OtherEdition = 21
 number_of reason.TooManyLines = 22
 number_of reason.NoSolution = 23
+number_of (reason.Unassigned n) = n
 
--- the reason with a number, so that a case can give the number: one of these, as any other gives 23 too
+-- the reason with a number, so that a caller and a case can give the number
 abbrev pub numbered : ℕ → Reason
 numbered n =
     cond (eqb n 1) ends_early
@@ -135,7 +136,8 @@ numbered n =
     (cond (eqb n 20) bad_image
     (cond (eqb n 21) other_edition
     (cond (eqb n 22) too_many_lines
-    no_solution)))))))))))))))))))
+    (cond (eqb n 23) no_solution
+    (reason.Unassigned n)))))))))))))))))))))
 
 -- a refusal of an item that begins at the octet `place`, counted from the start of the datagram or packet (rule 2.27)
 abbrev pub refusal_at : ℕ → Reason → Refusal

@@ -2,45 +2,100 @@
 // is defined here too, below every crate that refuses.
 #![tactic(auto)]
 
-ghost use Rattle.length.specs.Promise.{Octet, RefusalMade, RefusalPlaced};
+ghost use Rattle.length.specs.Promise.{Octet, RefusalMade, RefusalPlaced, RefusalTold};
 ghost use Rattle.std.specs.Prelude.{◌≡◌, ◌+◌, ◌^◌, ◌<◌};
-ghost use Rattle.length.specs.Refusals.{number_of, further as is_further};
+ghost use Rattle.length.specs.Refusals.{number_of, numbered, further as is_further};
 ghost use Rattle.length.specs.Length.{two_from, length_limit};
 ghost use Rattle.length.specs.Length.{within as is_within};
 
-// Why a call is refused, with the numbers that callers and C programs see (rules 2.1 to 2.23). 11 is retired, and its number is not used
-// again (rule 2.11); there is no refusal 19 (rule 2.19).
+// Why a call is refused (rules 2.1 to 2.23). 11 is retired, and its number is not used again (rule 2.11); there is no refusal 19 (rule
+// 2.19). A caller may make a refusal of any number, so one that the rules do not give is a reason too; no call here answers it.
 #[derive(Drop)]
 #[derive(Clone, Copy)]
 pub enum Reason {
-    EndsEarly = 1,
-    TooLong = 2,
-    BadForm = 3,
-    OutsideSizes = 4,
-    SpareBit = 5,
-    LeftOver = 6,
-    Repeated = 7,
-    TooFar = 8,
-    Late = 9,
-    BaseUnknown = 10,
-    NotAssigned = 12,
-    NoRoom = 13,
-    WrongData = 14,
-    WrongSettings = 15,
-    AllPassed = 16,
-    OutsideRanges = 17,
-    FrameTooLong = 18,
-    BadImage = 20,
-    OtherEdition = 21,
-    TooManyLines = 22,
-    NoSolution = 23,
+    EndsEarly,
+    TooLong,
+    BadForm,
+    OutsideSizes,
+    SpareBit,
+    LeftOver,
+    Repeated,
+    TooFar,
+    Late,
+    BaseUnknown,
+    NotAssigned,
+    NoRoom,
+    WrongData,
+    WrongSettings,
+    AllPassed,
+    OutsideRanges,
+    FrameTooLong,
+    BadImage,
+    OtherEdition,
+    TooManyLines,
+    NoSolution,
+    Unassigned(u8),
 }
 
 impl Reason {
+    // The number that callers and C programs see.
     pub fn number(self) -> u8
         ensures { result ≡ number_of self }
     {
-        self as u8
+        match self {
+            Reason::EndsEarly => 1,
+            Reason::TooLong => 2,
+            Reason::BadForm => 3,
+            Reason::OutsideSizes => 4,
+            Reason::SpareBit => 5,
+            Reason::LeftOver => 6,
+            Reason::Repeated => 7,
+            Reason::TooFar => 8,
+            Reason::Late => 9,
+            Reason::BaseUnknown => 10,
+            Reason::NotAssigned => 12,
+            Reason::NoRoom => 13,
+            Reason::WrongData => 14,
+            Reason::WrongSettings => 15,
+            Reason::AllPassed => 16,
+            Reason::OutsideRanges => 17,
+            Reason::FrameTooLong => 18,
+            Reason::BadImage => 20,
+            Reason::OtherEdition => 21,
+            Reason::TooManyLines => 22,
+            Reason::NoSolution => 23,
+            Reason::Unassigned(number) => number,
+        }
+    }
+
+    // The reason that has a number.
+    pub fn numbered(number: u8) -> Reason
+        ensures { result ≡ numbered number }
+    {
+        match number {
+            1 => Reason::EndsEarly,
+            2 => Reason::TooLong,
+            3 => Reason::BadForm,
+            4 => Reason::OutsideSizes,
+            5 => Reason::SpareBit,
+            6 => Reason::LeftOver,
+            7 => Reason::Repeated,
+            8 => Reason::TooFar,
+            9 => Reason::Late,
+            10 => Reason::BaseUnknown,
+            12 => Reason::NotAssigned,
+            13 => Reason::NoRoom,
+            14 => Reason::WrongData,
+            15 => Reason::WrongSettings,
+            16 => Reason::AllPassed,
+            17 => Reason::OutsideRanges,
+            18 => Reason::FrameTooLong,
+            20 => Reason::BadImage,
+            21 => Reason::OtherEdition,
+            22 => Reason::TooManyLines,
+            23 => Reason::NoSolution,
+            _ => Reason::Unassigned(number),
+        }
     }
 }
 
@@ -112,6 +167,16 @@ impl Length {
         ensures { result ≡ length_limit }
     {
         Length::LIMIT
+    }
+
+    // Why a length is refused, to be passed up whole or by `further`. Callers use it only for a refused length.
+    pub fn refusal(found: Result<Length, Refusal>) -> Refusal
+        ensures { RefusalTold found result }
+    {
+        match found {
+            Ok(_) => Refusal::new(Reason::EndsEarly),
+            Err(why) => why,
+        }
     }
 }
 

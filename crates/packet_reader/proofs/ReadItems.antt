@@ -42,22 +42,23 @@ module _ {s : List ℕ} {r : Result Length Refusal} {l : Length} (read : WithinR
     place-fits = omega (arith, count_fits, inside.few, inside.here)
 
 -- a count that is refused begins at the front, so that its place fits
-pub count-place : {s t : List ℕ} {at : ℕ} {r : Result Length Refusal} {why : Refusal} → OctetIn t at → WithinRead fields_least fields_limit s r
-    → r ≡ Err why → at + why.place < 2 ^ 64
-count-place {s} {why = why} inside read is =
+pub count-place : {s t : List ℕ} {at : ℕ} {r : Result Length Refusal} {why x : Refusal} → OctetIn t at → WithinRead fields_least fields_limit s r
+    → r ≡ Err why → RefusalTold r x → at + x.place < 2 ^ 64
+count-place {s} {why = why} {x} inside read is told =
+    let same : x ≡ why = told.answer ∙ ap refusal_of is in
     let front = (within-front fields_least fields_limit s).front why (sym read.answer ∙ ap length_outcome is) in
-    omega (arith, inside.few, inside.here)
+    omega (arith, ap (λ (y : Refusal). y.place) same, inside.few, inside.here)
 
 module _ {s : List ℕ} {at : ℕ} {b : Bool} where
   pub count_none : not b ≡ true → CountTold s at b (Ok (0, 8 * at))
   unfolding count_at
   count_none absent = record { answer = rw (not-true b absent) }
 
-  pub count-refused : {r : Result Length Refusal} {why y : Refusal} → not b ≡ false → WithinRead fields_least fields_limit (rest at s) r
-      → r ≡ Err why → y ≡ further at why → CountTold s at b (Err y)
+  pub count-refused : {r : Result Length Refusal} {why x y : Refusal} → not b ≡ false → WithinRead fields_least fields_limit (rest at s) r
+      → r ≡ Err why → RefusalTold r x → y ≡ further at x → CountTold s at b (Err y)
   unfolding count_at
-  count-refused present read is on =
-      record { answer = rw (on, not-false b present, ← rest-is at s, sym read.answer ∙ ap length_outcome is) }
+  count-refused present read is told on =
+      record { answer = rw (on, told.answer, is, not-false b present, ← rest-is at s, sym read.answer ∙ ap length_outcome is) }
 
   pub count-read : {r : Result Length Refusal} {l : Length} → not b ≡ false → WithinRead fields_least fields_limit (rest at s) r
       → r ≡ Ok l → CountTold s at b (Ok (l.value, 8 * (at + l.size)))

@@ -10,7 +10,7 @@ ghost use Rattle.packet_reader.specs.Items.{AfterType, HeaderTold, SizeTold, Dat
 use crate::places::{bit, bits, power, read_edge};
 use crate::values::{plain_width, read_value};
 use datagram::Packet;
-use length::{Reason, Refusal, wide};
+use length::{Length, Reason, Refusal, wide};
 use packet::{Field, Named, PacketKind};
 
 // What the first item says, and the octets up to the edge after it.
@@ -92,7 +92,7 @@ pub fn read_first(octets: &[u8], named: Named) -> Result<First, Refusal>
 }
 
 // The count of fields from the octet `at` on, where the first item says that they are present (rule 6.4), and the place after it.
-// A refusal is passed up by a match, as its place moves (rule 30.4).
+// The length's answer is taken apart by `let else`, and its refusal passed up with its place moved (rule 30.4).
 pub fn read_count(input: &[u8], at: usize, present: bool) -> Result<(usize, usize), Refusal>
     requires { OctetIn input.now at }
     ensures { CountTold input.now at present result }
@@ -100,10 +100,11 @@ pub fn read_count(input: &[u8], at: usize, present: bool) -> Result<(usize, usiz
     if !present {
         return Ok((0, 8 * at));
     }
-    match length_code::read_within(&input[at..], Field::LEAST, Field::LIMIT) {
-        Err(why) => Err(why.further(at)),
-        Ok(found) => Ok((found.value, 8 * (at + found.size))),
-    }
+    let read = length_code::read_within(&input[at..], Field::LEAST, Field::LIMIT);
+    let Ok(found) = read else {
+        return Err(Length::refusal(read).further(at));
+    };
+    Ok((found.value, 8 * (at + found.size)))
 }
 
 // What follows a field's type, which ends at a place: whether it may have data or not (rule 6.15). The header begins at the octet `item`.

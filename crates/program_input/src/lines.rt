@@ -26,19 +26,14 @@ impl<R: Read> Lines<R> {
         }
     }
 
-    // The next character; None at the end of the input.
-    fn character(&mut self) -> Option<u8> {
+    // The characters that are still to come of the block that was read last: the next block where there are none, and none at the end.
+    fn rest(&mut self) -> &[u8] {
         if self.end <= self.at && !self.ended {
             self.end = self.input.read(&mut self.block).unwrap_or(0);
             self.at = 0;
             self.ended = self.end == 0;
         }
-        if self.ended {
-            return None;
-        }
-        let next = self.block.get(self.at).copied()?;
-        self.at += 1;
-        Some(next)
+        self.block.get(self.at..self.end).unwrap_or(&[])
     }
 
     // Reads the next line without its line feed and without the characters to leave out to the front of `line`, and returns it; of a line
@@ -46,17 +41,29 @@ impl<R: Read> Lines<R> {
     // unless it is empty (rule 18.8).
     pub fn next_line<'a>(&mut self, line: &'a mut [u8], left_out: &[u8]) -> Option<&'a [u8]> {
         let mut size = 0;
-        // The input need not end, so the characters are counted up to a number that no run reaches.
+        // The input need not end, so the blocks are counted up to a number that no run reaches.
         for _ in 0..u64::MAX {
-            match self.character() {
-                None if size == 0 => return None,
-                None | Some(b'\n') => break,
-                Some(next) => {
-                    if size < line.len() && !left_out.contains(&next) {
-                        line[size] = next;
-                        size += 1;
-                    }
+            let mut taken: usize = 0;
+            let mut whole = false;
+            let rest = self.rest();
+            let last = rest.is_empty();
+            for next in rest {
+                taken = taken.wrapping_add(1);
+                if *next == b'\n' {
+                    whole = true;
+                    break;
                 }
+                if size < line.len() && !left_out.contains(next) {
+                    line[size] = *next;
+                    size += 1;
+                }
+            }
+            self.at = self.at.saturating_add(taken);
+            if last && size == 0 {
+                return None;
+            }
+            if last || whole {
+                break;
             }
         }
         Some(&line[..size])

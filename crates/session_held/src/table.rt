@@ -45,7 +45,7 @@ pub fn size_at(table: &[u16], slot: usize) -> usize
     requires slot_lt_slots_kept { slot < slots_kept }
     ensures { result ≡ size_in table.now slot }
 {
-    usize::from(table[Session::SIZES + slot])
+    octets::wide(table[Session::SIZES + slot])
 }
 
 // The note of a kept number: the number of the datagram whose offer filled it (rule 9.5).
@@ -88,7 +88,7 @@ pub fn n_at(table: &[u16], slot: usize) -> usize
     requires slot_lt_slots_heard { slot < slots_heard }
     ensures { result ≡ n_in table.now slot }
 {
-    usize::from(table[Session::NS + slot])
+    octets::wide(table[Session::NS + slot])
 }
 
 pub fn m_at(table: &[u16], slot: usize) -> usize
@@ -96,7 +96,7 @@ pub fn m_at(table: &[u16], slot: usize) -> usize
     requires slot_lt_slots_heard { slot < slots_heard }
     ensures { result ≡ m_in table.now slot }
 {
-    usize::from(table[Session::MS + slot])
+    octets::wide(table[Session::MS + slot])
 }
 
 // How many octets a message has.
@@ -105,7 +105,7 @@ pub fn message_size_at(table: &[u16], slot: usize) -> usize
     requires slot_lt_slots_messages { slot < slots_messages }
     ensures { result ≡ message_size_in table.now slot }
 {
-    usize::from(table[Session::MESSAGE_SIZES + slot])
+    octets::wide(table[Session::MESSAGE_SIZES + slot])
 }
 
 // Sets the state, the size and the note of a kept number.

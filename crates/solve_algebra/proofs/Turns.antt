@@ -37,6 +37,11 @@ pub swaps : (rows : List Row) (a b : ℕ) {new : List Row} → a < length rows �
 unfolding swapped_rows
 swaps rows a b inside_a inside_b e = record { answer = e ∙ sym (swap_is rows a b no_row inside_a inside_b) }
 
+-- the same rows, put there one by one
+pub swaps_set : (rows : List Row) (a b : ℕ) → RowsSwapped rows a b (set (set rows a (row_at rows b)) b (row_at rows a))
+unfolding swapped_rows
+swaps_set rows a b = record { answer = refl }
+
 -- ---- a row with a column taken out
 pub clear_kept : (row own : Row) (c : ℕ) {keeps : Bool} → keeps ≡ true → RowCleared row own c keeps row
 unfolding cleared_row

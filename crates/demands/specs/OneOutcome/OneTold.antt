@@ -46,10 +46,14 @@ One {A} promise = (r q : A) → promise r → promise q → r ≡ q
 abbrev pub OneLent : {A : Type 0} → (List ℕ → A → Type 0) → Type 0
 OneLent {A} promise = (new other : List ℕ) (r q : A) → promise new r → promise other q → (r ≡ q) × (new ≡ other)
 
--- `length`: `new`, `at` and `further` of `Refusal`, `two_from` and `limit` of `Length`, what a refused length says, `wide`, `within`
+-- `length`: `number` and `numbered` of `Reason`, `new`, `at`, `number` and `further` of `Refusal`, `two_from`, `limit` and `refusal` of
+-- `Length`, `wide`, `within`
 pub record ToldByLengths : Type 0 where
+  pub reason_number : (why : Reason) → One (λ (r : ℕ). r ≡ refusals.number_of why)
+  pub reason_numbered : (number : ℕ) → One (λ (r : Reason). r ≡ refusals.numbered number)
   pub refusal : (why : Reason) → One (RefusalMade why)
   pub refusal_at : (why : Reason) (place : ℕ) → One (RefusalPlaced why place)
+  pub refusal_number : (why : Refusal) → One (λ (r : ℕ). r ≡ refusals.number_of why.reason)
   pub refusal_further : (start : ℕ) (why : Refusal) → One (λ (r : Refusal). r ≡ refusals.further start why)
   pub length_two_from : One (λ (r : ℕ). r ≡ lengths.two_from)
   pub length_limit : One (λ (r : ℕ). r ≡ lengths.length_limit)

@@ -8,14 +8,14 @@ returns-then-not-present c = search counts
 pub further-requires : goal.further-requires
 further-requires c = search counts
 
-pub returns-in-Err : goal.returns-in-Err
-returns-in-Err c = search counts
+pub returns-in_default : goal.returns-in_default
+returns-in_default c = search counts
 
 pub overflow_add-result : goal.overflow_add-result
 overflow_add-result c = search counts
 
-pub returns-in-Ok : goal.returns-in-Ok
-returns-in-Ok c = search counts
+pub overflow_mul-result-2 : goal.overflow_mul-result-2
+overflow_mul-result-2 c = search counts
 
-pub overflow_mul-result-in-Ok : goal.overflow_mul-result-in-Ok
-overflow_mul-result-in-Ok c = search counts
+pub returns : goal.returns
+returns c = search counts
